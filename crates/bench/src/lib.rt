@@ -1,0 +1,11 @@
+// The bench: a net's marking in lent counts, moved by fires, backs and restarts.
+pub mod bench;
+pub mod firing;
+pub mod moves;
+
+pub use bench::Bench;
+pub use firing::Firing;
+pub use moves::back_on;
+pub use moves::begin_on;
+pub use moves::fire_on;
+pub use moves::measure;

@@ -1,0 +1,4 @@
+pub mod Meaning
+pub mod Domains
+pub mod Measure
+pub mod Kinds
