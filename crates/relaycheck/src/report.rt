@@ -3,7 +3,7 @@ use judge::Outcome;
 use std::fmt;
 use term::FileFault;
 use term::Stage;
-use trace::Replay;
+use trace::Replayed;
 
 // A net that does not read: the fault's number, its byte, and what was being read there.
 pub fn add_fault(text: &mut String, f: FileFault) -> fmt::Result {
@@ -29,7 +29,7 @@ pub fn add_claim(text: &mut String, claim: usize, outcome: Outcome) -> fmt::Resu
 }
 
 // How many commands were carried out, and what stopped the replay, if anything.
-pub fn add_replay(text: &mut String, done: Replay) -> fmt::Result {
+pub fn add_replay(text: &mut String, done: Replayed) -> fmt::Result {
     let carried = done.carried;
     match done.stop {
         None => writeln!(text, "replay {carried} done"),

@@ -9,15 +9,14 @@ use lib.Dec.{eqb, leb, ltb}
 use lib.ListN.{length, getD, drop}
 use Rattle.std.proofs.shelf.Ways.{tells}
 use Rattle.term.specs.declared.fault.Fault.the-variants as fault
-use Rattle.term.specs.declared.signature.Signature.{Signature}
 use Rattle.term.specs.Check.{Checked, bad, bag-front, check-bag, check-term, done, flexible-at, in-term, place, then}
-use Rattle.term.specs.Meaning.{bag-operation, bag-sorted, sorted}
+use Rattle.term.specs.Meaning.{Sig, bag-operation, bag-sorted, sorted}
 use Rattle.term.specs.Prefix.{bag-at, term-at}
 use Rattle.term.specs.Shape.{Flexible, Passed, Passed-bag}
 use Rattle.term.proofs.Shapes.{both-true}
 use Rattle.term.proofs.Turns.{at-empty, at-flexible, at-single, at-sum}
 
-module _ (s : Signature) (t : ℕ → List ℕ → Checked) (b : List ℕ → Checked) (deep : Bool) (want : ℕ) (bs : List ℕ) (ends : ℕ) where
+module _ (s : Sig) (t : ℕ → List ℕ → Checked) (b : List ℕ → Checked) (deep : Bool) (want : ℕ) (bs : List ℕ) (ends : ℕ) where
   front-ends : length bs ≡ 0 → bag-front s t b deep want bs ends ≡ bad (in-term fault.Ends ends)
   front-ends h = let e : ltb 0 (length bs) ≡ false = grind (arith, tells) in rw e
 
@@ -26,7 +25,7 @@ module _ (s : Signature) (t : ℕ → List ℕ → Checked) (b : List ℕ → Ch
       let f : (leb 0x30 (getD bs 0 0) && leb (getD bs 0 0) 0x33) ≡ false = grind (arith, tells) in
       rw (lt-ltb 0 (length bs) h, f)
 
-module _ (s : Signature) (vars : List ℕ) (ends want : ℕ) (bs : List ℕ) where
+module _ (s : Sig) (vars : List ℕ) (ends want : ℕ) (bs : List ℕ) where
   abbrev check : ℕ → List ℕ → Checked
   check d = check-bag s vars ends d want
 

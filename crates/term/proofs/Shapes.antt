@@ -9,8 +9,7 @@ use borrow.Author.Tests.{eq-eqb, ne-eqb, lt-ltb}
 use lib.Dec.{eqb, ltb}
 use lib.ListN.{length, getD, drop}
 use Rattle.std.proofs.shelf.Ways.{tells}
-use Rattle.term.specs.declared.signature.Signature.{Signature}
-use Rattle.term.specs.Meaning.{Term, variable, constant, apply, equal, negate, both, operation, size, sorted}
+use Rattle.term.specs.Meaning.{Sig, Term, variable, constant, apply, equal, negate, both, operation, size, sorted}
 use Rattle.term.specs.Prefix.{Read, applied, front, missing, one, term-at, two}
 use Rattle.term.specs.Shape.{Few, Passed, Shape}
 use Rattle.term.proofs.Turns.{front-apply, front-both, front-constant, front-equal, front-negate, front-variable, turn}
@@ -18,7 +17,7 @@ use Rattle.term.proofs.Turns.{front-apply, front-both, front-constant, front-e
 pub both-true : (a b : Bool) → a ≡ true → b ≡ true → (a && b) ≡ true
 both-true a b p q = rw (p, q)
 
-module _ (s : Signature) (vars : List ℕ) (want : ℕ) (bs r : List ℕ) where
+module _ (s : Sig) (vars : List ℕ) (want : ℕ) (bs r : List ℕ) where
   pub shape-variable : 1 < length bs → getD bs 0 0 ≡ 0x20 → getD bs 1 0 < length vars → getD vars (getD bs 1 0) 0 ≡ want → r ≡ drop 2 bs → Shape s vars want bs 0 0 0 r
   shape-variable h e v w q = record {
     few = omega arith;
@@ -35,7 +34,7 @@ module _ (s : Signature) (vars : List ℕ) (want : ℕ) (bs r : List ℕ) where
     binary = λ z p. let y : ⊥ = omega arith in absurd y;
   }
 
-  module _ (h : 1 < length bs) (e : getD bs 0 0 ≡ 0x22) (k : ℕ) (is : getD bs 1 0 ≡ k) (there : k < length (s .operations .now)) (w : operation s k .result ≡ want) (q : r ≡ drop 2 bs) (most : operation s k .arity ≤ 2) where
+  module _ (h : 1 < length bs) (e : getD bs 0 0 ≡ 0x22) (k : ℕ) (is : getD bs 1 0 ≡ k) (there : k < length (s .operations)) (w : operation s k .result ≡ want) (q : r ≡ drop 2 bs) (most : operation s k .arity ≤ 2) where
     abbrev arity : ℕ
     arity = operation s k .arity
 
@@ -63,7 +62,7 @@ module _ (s : Signature) (vars : List ℕ) (want : ℕ) (bs r : List ℕ) where
           (apply k, begun p ∙ rw (n0, n1), λ x y t u. fits x y (rw (n2, t)) (rw (n3, u)));
     }
 
-  pub shape-equal : 1 < length bs → getD bs 0 0 ≡ 0x23 → want ≡ 0 → getD bs 1 0 < length (s .sizes .now) → r ≡ drop 2 bs → Shape s vars want bs 2 (getD bs 1 0) (getD bs 1 0) r
+  pub shape-equal : 1 < length bs → getD bs 0 0 ≡ 0x23 → want ≡ 0 → getD bs 1 0 < length (s .sizes) → r ≡ drop 2 bs → Shape s vars want bs 2 (getD bs 1 0) (getD bs 1 0) r
   shape-equal h e w t q = record {
     few = omega arith;
     leaf = λ z p. let y : ⊥ = omega arith in absurd y;
@@ -102,7 +101,7 @@ module _ (s : Signature) (vars : List ℕ) (want : ℕ) (bs r : List ℕ) where
       one-or-two n low high = grind arith
 
 -- one turn of the check
-module _ (s : Signature) (vars : List ℕ) (few : Few s) (d want n a b : ℕ) (bs r : List ℕ) (deep : 0 < d) (shape : Shape s vars want bs n a b r) where
+module _ (s : Sig) (vars : List ℕ) (few : Few s) (d want n a b : ℕ) (bs r : List ℕ) (deep : 0 < d) (shape : Shape s vars want bs n a b r) where
   pub passed-leaf : n ≡ 0 → Passed s vars d want bs r
   passed-leaf z =
       let x = shape .leaf z (term-at s (d - 1)) in

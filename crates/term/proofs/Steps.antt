@@ -11,9 +11,9 @@ use denote.Ref.{RefT, now}
 use Rattle.std.specs.Vec.{made}
 use Rattle.std.specs.declared.result.Result.{Result}
 use Rattle.std.proofs.shelf.Results.{made-weaker}
+use Rattle.term.specs.Meaning.{Sig}
 use Rattle.term.specs.Check.{Front, front, none, Checked, done, bad, head-at, check-term, parts, then, in-term, place}
 use Rattle.term.specs.declared.fault.Fault.the-variants as fault
-use Rattle.term.specs.declared.signature.Signature.{Signature}
 use Rattle.term.specs.declared.fault.FileFault.{FileFault}
 
 apart : (n a b : ℕ) (r : List ℕ) (e : FileFault) → front n a b r ≡ none e → ⊥
@@ -31,7 +31,7 @@ still-shorter r q bs h k = made-weaker r (λ t. length (now t) < length q) (λ t
 positive : (d : ℕ) → eqb (suc d) 0 ≡ false
 positive d = ne-eqb (suc d) 0 (λ e. omega arith)
 
-module _ (s : Signature) (vars : List ℕ) (ends : ℕ) where
+module _ (s : Sig) (vars : List ℕ) (ends : ℕ) where
   -- nothing is found past the depth
   pub deeper : (d want n a b : ℕ) (bs r : List ℕ) → front n a b r ≡ head-at s vars (eqb d 0) want bs ends → 0 < d
   deeper zero want n a b bs r h =

@@ -7,8 +7,7 @@ use native.Mathlib.Omega.{arith}
 use lib.Dec.{eqb, ltb}
 use lib.ListN.{length, getD, drop}
 use Rattle.std.proofs.shelf.Ways.{tells}
-use Rattle.term.specs.declared.signature.Signature.{Signature}
-use Rattle.term.specs.Meaning.{Term, variable, constant, apply, equal, negate, both, Bag, empty, single, sum, flexible, operation}
+use Rattle.term.specs.Meaning.{Sig, Term, variable, constant, apply, equal, negate, both, Bag, empty, single, sum, flexible, operation}
 use Rattle.term.specs.Prefix.{begins, missing, Read, one, two, applied, front, term-at, ReadBag, bag-front, bag-at}
 
 pub is : (k n : ℕ) (bs : List ℕ) → n < length bs → getD bs 0 0 ≡ k → begins k n bs ≡ true
@@ -17,7 +16,7 @@ is k n bs h e = grind (arith, tells)
 pub is-not : (k j n : ℕ) (bs : List ℕ) → getD bs 0 0 ≡ k → (k ≡ j → ⊥) → begins j n bs ≡ false
 is-not k j n bs e h = grind (arith, tells)
 
-module _ (s : Signature) where
+module _ (s : Sig) where
   pub none : (d : ℕ) (bs : List ℕ) → d ≡ 0 → term-at s d bs ≡ (missing, bs)
   unfolding term-at
   none zero bs h = refl
@@ -80,7 +79,7 @@ module _ (p : List ℕ → Read) (g : Term → ℕ) (bs r : List ℕ) (same : r 
       let f = first-part a ra av ar in
       (f .0, bv ∙ ap (λ x. g (p x .0)) (f .1), br ∙ ap (λ x. p x .1) (f .1))
 
-module _ (s : Signature) where
+module _ (s : Sig) where
   pub bag-none : (d : ℕ) (bs : List ℕ) → d ≡ 0 → bag-at s d bs ≡ (empty, bs)
   unfolding bag-at
   bag-none zero bs h = refl

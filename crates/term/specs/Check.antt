@@ -15,8 +15,7 @@ use Rattle.term.specs.declared.fault.FileFault.{FileFault}
 use Rattle.term.specs.declared.fault.Stage.the-variants as stage
 use Rattle.term.specs.declared.signature.Operation.{Operation}
 use Rattle.term.specs.declared.signature.BagOperation.{BagOperation}
-use Rattle.term.specs.declared.signature.Signature.{Signature}
-use Rattle.term.specs.Meaning.{bag-operation, operation, size}
+use Rattle.term.specs.Meaning.{Sig, bag-operation, operation, size}
 
 -- the front of a term: how many parts follow, of which sorts, and what is left; or a fault
 pub data Front : Type 0 where
@@ -54,29 +53,29 @@ variable-at vars want bs ends =
     byte bs ends 1 (λ v. test (ltb v (length vars)) fault.Range (place bs ends 1)
     (test (eqb (getD vars v 0) want) fault.Sort (place bs ends 1) (front 0 0 0 (drop 2 bs))))
 
-abbrev pub constant-at : Signature → ℕ → List ℕ → ℕ → Front
+abbrev pub constant-at : Sig → ℕ → List ℕ → ℕ → Front
 constant-at s want bs ends =
-    byte bs ends 1 (λ t. test (ltb t (length (s .sizes .now))) fault.Range (place bs ends 1)
+    byte bs ends 1 (λ t. test (ltb t (length (s .sizes))) fault.Range (place bs ends 1)
     (test (eqb t want) fault.Sort (place bs ends 1)
     (byte bs ends 2 (λ e. test (ltb e (size s t)) fault.Range (place bs ends 2) (front 0 0 0 (drop 3 bs))))))
 
 abbrev pub applied : Operation → List ℕ → Front
 applied o r = front (o .arity) (o .first) (o .second) r
 
-abbrev pub application-at : Signature → ℕ → List ℕ → ℕ → Front
+abbrev pub application-at : Sig → ℕ → List ℕ → ℕ → Front
 application-at s want bs ends =
-    byte bs ends 1 (λ o. test (ltb o (length (s .operations .now))) fault.Range (place bs ends 1)
+    byte bs ends 1 (λ o. test (ltb o (length (s .operations))) fault.Range (place bs ends 1)
     (test (eqb (operation s o .result) want) fault.Sort (place bs ends 1) (applied (operation s o) (drop 2 bs))))
 
-abbrev pub equality-at : Signature → ℕ → List ℕ → ℕ → Front
+abbrev pub equality-at : Sig → ℕ → List ℕ → ℕ → Front
 equality-at s want bs ends =
     test (eqb want 0) fault.Sort (place bs ends 0)
-    (byte bs ends 1 (λ t. test (ltb t (length (s .sizes .now))) fault.Range (place bs ends 1) (front 2 t t (drop 2 bs))))
+    (byte bs ends 1 (λ t. test (ltb t (length (s .sizes))) fault.Range (place bs ends 1) (front 2 t t (drop 2 bs))))
 
 abbrev pub logic-at : ℕ → ℕ → List ℕ → ℕ → Front
 logic-at n want bs ends = test (eqb want 0) fault.Sort (place bs ends 0) (front n 0 0 (drop 1 bs))
 
-abbrev pub head-at : Signature → List ℕ → Bool → ℕ → List ℕ → ℕ → Front
+abbrev pub head-at : Sig → List ℕ → Bool → ℕ → List ℕ → ℕ → Front
 head-at s vars deep want bs ends =
     byte bs ends 0 (λ c. test (leb 0x20 c && leb c 0x25) fault.NoCommand (place bs ends 0)
     (cond deep (none (in-term fault.Deep (place bs ends 0)))
@@ -97,7 +96,7 @@ parts t (none e) = bad e
 parts t (front n a b r) = cond (ltb 0 n) (then (t a r) (λ q. cond (ltb 1 n) (t b q) (done q))) (done r)
 
 -- a term of sort want, of at most the given depth
-abbrev pub check-term : Signature → List ℕ → ℕ → ℕ → ℕ → List ℕ → Checked
+abbrev pub check-term : Sig → List ℕ → ℕ → ℕ → ℕ → List ℕ → Checked
 check-term s vars ends zero want bs = parts (λ t r. bad (in-term fault.Deep 0)) (head-at s vars true want bs ends)
 check-term s vars ends (suc d) want bs = parts (check-term s vars ends d) (head-at s vars false want bs ends)
 
@@ -108,13 +107,13 @@ bag-byte bs ends i k = cond (ltb i (length bs)) (k (getD bs i 0)) (bad (in-term 
 abbrev pub bag-test : Bool → Fault → ℕ → Checked → Checked
 bag-test ok f p r = cond ok r (bad (in-term f p))
 
-abbrev pub flexible-at : Signature → (ℕ → List ℕ → Checked) → ℕ → List ℕ → ℕ → Checked
+abbrev pub flexible-at : Sig → (ℕ → List ℕ → Checked) → ℕ → List ℕ → ℕ → Checked
 flexible-at s t want bs ends =
-    bag-byte bs ends 1 (λ k. bag-test (ltb k (length (s .bags .now))) fault.Range (place bs ends 1)
+    bag-byte bs ends 1 (λ k. bag-test (ltb k (length (s .bags))) fault.Range (place bs ends 1)
     (bag-test (eqb (bag-operation s k .result) want) fault.Sort (place bs ends 1) (t (bag-operation s k .argument) (drop 2 bs))))
 
 -- a bag over the sort want, its terms checked by t and its bags by b
-abbrev pub bag-front : Signature → (ℕ → List ℕ → Checked) → (List ℕ → Checked) → Bool → ℕ → List ℕ → ℕ → Checked
+abbrev pub bag-front : Sig → (ℕ → List ℕ → Checked) → (List ℕ → Checked) → Bool → ℕ → List ℕ → ℕ → Checked
 bag-front s t b deep want bs ends =
     bag-byte bs ends 0 (λ c. bag-test (leb 0x30 c && leb c 0x33) fault.NoCommand (place bs ends 0)
     (cond deep (bad (in-term fault.Deep (place bs ends 0)))
@@ -123,7 +122,7 @@ bag-front s t b deep want bs ends =
     (cond (eqb c 0x32) (then (b (drop 1 bs)) b) (flexible-at s t want bs ends))))))
 
 -- a bag over the sort want, of at most the given depth
-unfoldable pub check-bag : Signature → List ℕ → ℕ → ℕ → ℕ → List ℕ → Checked
+unfoldable pub check-bag : Sig → List ℕ → ℕ → ℕ → ℕ → List ℕ → Checked
 check-bag s vars ends zero want bs = bag-front s (λ t r. done r) (λ r. done r) true want bs ends
 check-bag s vars ends (suc d) want bs = bag-front s (check-term s vars ends d) (check-bag s vars ends d want) false want bs ends
 

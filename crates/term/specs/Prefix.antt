@@ -4,8 +4,7 @@ use mathlib.Core.Bool.{Bool, cond, _&&_}
 use Prim.Native.Nat.{ℕ, zero, suc}
 use lib.Dec.{ltb, eqb}
 use lib.ListN.{length, getD, drop}
-use Rattle.term.specs.declared.signature.Signature.{Signature}
-use Rattle.term.specs.Meaning.{Term, variable, constant, apply, equal, negate, both, Bag, empty, single, sum, flexible, operation}
+use Rattle.term.specs.Meaning.{Sig, Term, variable, constant, apply, equal, negate, both, Bag, empty, single, sum, flexible, operation}
 
 -- the bytes begin with the code k, and more than n follow it
 abbrev pub begins : ℕ → ℕ → List ℕ → Bool
@@ -32,7 +31,7 @@ abbrev pub applied : (List ℕ → Read) → ℕ → ℕ → List ℕ → Read
 applied p k n bs = cond (eqb n 0) (apply k missing missing, bs) (cond (eqb n 1) (one p (λ a. apply k a missing) bs) (two p (apply k) bs))
 
 -- a term whose parts are read by p
-abbrev pub front : Signature → (List ℕ → Read) → List ℕ → Read
+abbrev pub front : Sig → (List ℕ → Read) → List ℕ → Read
 front s p bs =
     cond (begins 0x20 1 bs) (variable (getD bs 1 0), drop 2 bs)
     (cond (begins 0x21 2 bs) (constant (getD bs 1 0) (getD bs 2 0), drop 3 bs)
@@ -42,7 +41,7 @@ front s p bs =
     (cond (begins 0x25 0 bs) (two p both (drop 1 bs)) (missing, bs))))))
 
 -- the term of at most the given depth that bytes begin with, and what follows it
-unfoldable pub term-at : Signature → ℕ → List ℕ → Read
+unfoldable pub term-at : Sig → ℕ → List ℕ → Read
 term-at s zero bs = (missing, bs)
 term-at s (suc d) bs = front s (term-at s d) bs
 
@@ -58,6 +57,6 @@ bag-front p q bs =
     (cond (begins 0x33 1 bs) (flexible (getD bs 1 0) (p (drop 2 bs) .0), p (drop 2 bs) .1) (empty, bs))))
 
 -- the bag of at most the given depth that bytes begin with, and what follows it
-unfoldable pub bag-at : Signature → ℕ → List ℕ → ReadBag
+unfoldable pub bag-at : Sig → ℕ → List ℕ → ReadBag
 bag-at s zero bs = (empty, bs)
 bag-at s (suc d) bs = bag-front (term-at s d) (bag-at s d) bs

@@ -3,7 +3,7 @@ ghost use mathlib.Core.Bool.{cond};
 ghost use Prim.Native.Nat.{_*_};
 ghost use lib.Dec.{eqb};
 ghost use Rattle.term.specs.Counts.{Added};
-ghost use Rattle.term.specs.Meaning.{bag-operation as bag-of, copies-in, count};
+ghost use Rattle.term.specs.Meaning.{of, bag-operation as bag-of, copies-in, count};
 ghost use Rattle.term.specs.Prefix.{bag-at};
 use crate::evaluate::at;
 use crate::evaluate::value;
@@ -11,7 +11,7 @@ use crate::signature::BagOperation;
 use crate::signature::Signature;
 
 pub(crate) fn bag_operation(s: Signature, k: u8) -> BagOperation
-    ensures { λ r. ⌜ r ≡ bag-of (s .entry) k ⌝ }
+    ensures { λ r. ⌜ r ≡ bag-of (of (s .entry)) k ⌝ }
 {
     let k = k as usize;
     if k < s.bags.len() {
@@ -37,7 +37,7 @@ fn add(counts: &mut [u32], place: u8, element: u8, n: u8)
 
 // Adds what a bag operation gives at `argument` to the counts of a place.
 fn add_row(s: Signature, o: BagOperation, argument: u8, place: u8, counts: &mut [u32])
-    ensures { λ _. ⌜ Added (now (counts .entry)) (now (counts .exit)) (64 * place) (copies-in (s .entry) o argument) ⌝ }
+    ensures { λ _. ⌜ Added (now (counts .entry)) (now (counts .exit)) (64 * place) (copies-in (of (s .entry)) o argument) ⌝ }
 {
     let size = at(s.sizes, o.result as usize);
     let row = o.table as usize + argument as usize * size as usize;
@@ -55,8 +55,8 @@ pub fn count_bag<'f>(
     place: u8,
     counts: &mut [u32],
 ) -> &'f [u8]
-    ensures counts { λ _. ⌜ Added (now (counts .entry)) (now (counts .exit)) (64 * place) (count (s .entry) (now (mode .entry)) (bag-at (s .entry) depth (now (bytes .entry)) .0)) ⌝ }
-    ensures rest { λ r. ⌜ now r ≡ bag-at (s .entry) depth (now (bytes .entry)) .1 ⌝ }
+    ensures counts { λ _. ⌜ Added (now (counts .entry)) (now (counts .exit)) (64 * place) (count (of (s .entry)) (now (mode .entry)) (bag-at (of (s .entry)) depth (now (bytes .entry)) .0)) ⌝ }
+    ensures rest { λ r. ⌜ now r ≡ bag-at (of (s .entry)) depth (now (bytes .entry)) .1 ⌝ }
 {
     if depth == 0 {
         return bytes;

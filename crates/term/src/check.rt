@@ -4,6 +4,7 @@ ghost use Prim.Native.Nat.{ℕ, _+_, _<_};
 ghost use lib.ListN.{length, getD};
 ghost use Rattle.std.specs.Vec.{made};
 ghost use Rattle.term.specs.Check.{Checked, application-at, check-bag, check-term, checked, constant-at, equality-at, flexible-at, front-of, head-at, in-term, logic-at, onward, variable-at};
+ghost use Rattle.term.specs.Meaning.{Sig, of};
 ghost use Rattle.term.specs.Shape.{Few, Flexible, Passed, Passed-bag, Shape};
 use crate::fault::Fault;
 use crate::fault::FileFault;
@@ -39,7 +40,7 @@ fn variable<'f>(
     requires begins { ⌜ (0 < length (now bytes)) × (getD (now bytes) 0 0 ≡ 0x20) ⌝ }
     ensures value { λ r. ⌜ front-of r ≡ variable-at (now (variables .entry)) want (now (bytes .entry)) ends ⌝ }
     ensures shorter { λ r. ⌜ made r (λ h. length (h .rest .now) < length (now (bytes .entry))) ⌝ }
-    ensures shape { λ r. ⌜ made r (λ h. (s : Signature) → Shape s (now (variables .entry)) want (now (bytes .entry)) (h .parts) (h .first) (h .second) (h .rest .now)) ⌝ }
+    ensures shape { λ r. ⌜ made r (λ h. (s : Sig) → Shape s (now (variables .entry)) want (now (bytes .entry)) (h .parts) (h .first) (h .second) (h .rest .now)) ⌝ }
 {
     let at = ends.saturating_sub(bytes.len());
     match bytes {
@@ -61,9 +62,9 @@ fn variable<'f>(
 // sort, element
 fn constant<'f>(s: Signature, bytes: &'f [u8], ends: usize, want: u8) -> Result<Head<'f>, FileFault>
     requires begins { ⌜ (0 < length (now bytes)) × (getD (now bytes) 0 0 ≡ 0x21) ⌝ }
-    ensures value { λ r. ⌜ front-of r ≡ constant-at (s .entry) want (now (bytes .entry)) ends ⌝ }
+    ensures value { λ r. ⌜ front-of r ≡ constant-at (of (s .entry)) want (now (bytes .entry)) ends ⌝ }
     ensures shorter { λ r. ⌜ made r (λ h. length (h .rest .now) < length (now (bytes .entry))) ⌝ }
-    ensures shape { λ r. ⌜ made r (λ h. (v : List ℕ) → Shape (s .entry) v want (now (bytes .entry)) (h .parts) (h .first) (h .second) (h .rest .now)) ⌝ }
+    ensures shape { λ r. ⌜ made r (λ h. (v : List ℕ) → Shape (of (s .entry)) v want (now (bytes .entry)) (h .parts) (h .first) (h .second) (h .rest .now)) ⌝ }
 {
     let at = ends.saturating_sub(bytes.len());
     match bytes {
@@ -91,9 +92,9 @@ fn application<'f>(
     want: u8,
 ) -> Result<Head<'f>, FileFault>
     requires begins { ⌜ (0 < length (now bytes)) × (getD (now bytes) 0 0 ≡ 0x22) ⌝ }
-    ensures value { λ r. ⌜ front-of r ≡ application-at (s .entry) want (now (bytes .entry)) ends ⌝ }
+    ensures value { λ r. ⌜ front-of r ≡ application-at (of (s .entry)) want (now (bytes .entry)) ends ⌝ }
     ensures shorter { λ r. ⌜ made r (λ h. length (h .rest .now) < length (now (bytes .entry))) ⌝ }
-    ensures shape { λ r. ⌜ made r (λ h. Few (s .entry) → (v : List ℕ) → Shape (s .entry) v want (now (bytes .entry)) (h .parts) (h .first) (h .second) (h .rest .now)) ⌝ }
+    ensures shape { λ r. ⌜ made r (λ h. Few (of (s .entry)) → (v : List ℕ) → Shape (of (s .entry)) v want (now (bytes .entry)) (h .parts) (h .first) (h .second) (h .rest .now)) ⌝ }
 {
     let at = ends.saturating_sub(bytes.len());
     match bytes {
@@ -119,9 +120,9 @@ fn application<'f>(
 // sort of both parts
 fn equality<'f>(s: Signature, bytes: &'f [u8], ends: usize, want: u8) -> Result<Head<'f>, FileFault>
     requires begins { ⌜ (0 < length (now bytes)) × (getD (now bytes) 0 0 ≡ 0x23) ⌝ }
-    ensures value { λ r. ⌜ front-of r ≡ equality-at (s .entry) want (now (bytes .entry)) ends ⌝ }
+    ensures value { λ r. ⌜ front-of r ≡ equality-at (of (s .entry)) want (now (bytes .entry)) ends ⌝ }
     ensures shorter { λ r. ⌜ made r (λ h. length (h .rest .now) < length (now (bytes .entry))) ⌝ }
-    ensures shape { λ r. ⌜ made r (λ h. (v : List ℕ) → Shape (s .entry) v want (now (bytes .entry)) (h .parts) (h .first) (h .second) (h .rest .now)) ⌝ }
+    ensures shape { λ r. ⌜ made r (λ h. (v : List ℕ) → Shape (of (s .entry)) v want (now (bytes .entry)) (h .parts) (h .first) (h .second) (h .rest .now)) ⌝ }
 {
     let at = ends.saturating_sub(bytes.len());
     match bytes {
@@ -142,7 +143,7 @@ fn logic<'f>(parts: u8, bytes: &'f [u8], ends: usize, want: u8) -> Result<Head<'
     requires begins { ⌜ (0 < length (now bytes)) × (getD (now bytes) 0 0 ≡ 0x23 + parts) × (0 < parts) × (parts < 3) ⌝ }
     ensures value { λ r. ⌜ front-of r ≡ logic-at parts want (now (bytes .entry)) ends ⌝ }
     ensures shorter { λ r. ⌜ made r (λ h. length (h .rest .now) < length (now (bytes .entry))) ⌝ }
-    ensures shape { λ r. ⌜ made r (λ h. (s : Signature) (v : List ℕ) → Shape s v want (now (bytes .entry)) (h .parts) (h .first) (h .second) (h .rest .now)) ⌝ }
+    ensures shape { λ r. ⌜ made r (λ h. (s : Sig) (v : List ℕ) → Shape s v want (now (bytes .entry)) (h .parts) (h .first) (h .second) (h .rest .now)) ⌝ }
 {
     let at = ends.saturating_sub(bytes.len());
     match bytes {
@@ -166,9 +167,9 @@ fn read_head<'f>(
     deep: bool,
     want: u8,
 ) -> Result<Head<'f>, FileFault>
-    ensures value { λ r. ⌜ front-of r ≡ head-at (s .entry) (now (variables .entry)) deep want (now (bytes .entry)) ends ⌝ }
+    ensures value { λ r. ⌜ front-of r ≡ head-at (of (s .entry)) (now (variables .entry)) deep want (now (bytes .entry)) ends ⌝ }
     ensures shorter { λ r. ⌜ made r (λ h. length (h .rest .now) < length (now (bytes .entry))) ⌝ }
-    ensures shape { λ r. ⌜ made r (λ h. Few (s .entry) → Shape (s .entry) (now (variables .entry)) want (now (bytes .entry)) (h .parts) (h .first) (h .second) (h .rest .now)) ⌝ }
+    ensures shape { λ r. ⌜ made r (λ h. Few (of (s .entry)) → Shape (of (s .entry)) (now (variables .entry)) want (now (bytes .entry)) (h .parts) (h .first) (h .second) (h .rest .now)) ⌝ }
 {
     let at = ends.saturating_sub(bytes.len());
     match bytes {
@@ -193,9 +194,9 @@ pub fn check_term<'f>(
     depth: u8,
     want: u8,
 ) -> Result<&'f [u8], FileFault>
-    ensures value { λ r. ⌜ checked r ≡ check-term (s .entry) (now (variables .entry)) ends depth want (now (bytes .entry)) ⌝ }
+    ensures value { λ r. ⌜ checked r ≡ check-term (of (s .entry)) (now (variables .entry)) ends depth want (now (bytes .entry)) ⌝ }
     ensures shorter { λ r. ⌜ made r (λ t. length (now t) < length (now (bytes .entry))) ⌝ }
-    ensures passed { λ r. ⌜ made r (λ t. Few (s .entry) → Passed (s .entry) (now (variables .entry)) depth want (now (bytes .entry)) (now t)) ⌝ }
+    ensures passed { λ r. ⌜ made r (λ t. Few (of (s .entry)) → Passed (of (s .entry)) (now (variables .entry)) depth want (now (bytes .entry)) (now t)) ⌝ }
 {
     let front = read_head(s, variables, bytes, ends, depth == 0, want)?;
     if front.parts == 0 {
@@ -217,9 +218,9 @@ pub fn check_bag<'f>(
     depth: u8,
     want: u8,
 ) -> Result<&'f [u8], FileFault>
-    ensures value { λ r. ⌜ checked r ≡ check-bag (s .entry) (now (variables .entry)) ends depth want (now (bytes .entry)) ⌝ }
+    ensures value { λ r. ⌜ checked r ≡ check-bag (of (s .entry)) (now (variables .entry)) ends depth want (now (bytes .entry)) ⌝ }
     ensures shorter { λ r. ⌜ made r (λ t. length (now t) < length (now (bytes .entry))) ⌝ }
-    ensures passed { λ r. ⌜ made r (λ t. Few (s .entry) → Passed-bag (s .entry) (now (variables .entry)) depth want (now (bytes .entry)) (now t)) ⌝ }
+    ensures passed { λ r. ⌜ made r (λ t. Few (of (s .entry)) → Passed-bag (of (s .entry)) (now (variables .entry)) depth want (now (bytes .entry)) (now t)) ⌝ }
 {
     let at = ends.saturating_sub(bytes.len());
     match bytes {
@@ -247,9 +248,9 @@ fn flexible<'f>(
     want: u8,
 ) -> Result<(u8, &'f [u8]), FileFault>
     requires begins { ⌜ 0 < length (now bytes) ⌝ }
-    ensures value { λ r. ⌜ ((t : ℕ → List ℕ → Checked) → onward t r ≡ flexible-at (s .entry) t want (now (bytes .entry)) ends) ⌝ }
+    ensures value { λ r. ⌜ ((t : ℕ → List ℕ → Checked) → onward t r ≡ flexible-at (of (s .entry)) t want (now (bytes .entry)) ends) ⌝ }
     ensures shorter { λ r. ⌜ made r (λ h. length (now (h .1)) < length (now (bytes .entry))) ⌝ }
-    ensures found { λ r. ⌜ made r (λ h. Flexible (s .entry) want (now (bytes .entry)) (h .0) (now (h .1))) ⌝ }
+    ensures found { λ r. ⌜ made r (λ h. Flexible (of (s .entry)) want (now (bytes .entry)) (h .0) (now (h .1))) ⌝ }
 {
     let at = ends.saturating_sub(bytes.len());
     match bytes {

@@ -2,7 +2,7 @@ ghost use mathlib.Core.Path.{_≡_};
 ghost use mathlib.Core.Bool.{_&&_};
 ghost use lib.Dec.{eqb};
 ghost use lib.ListN.{getD};
-ghost use Rattle.term.specs.Meaning.{operation as op-of, result as result-of, value as value-of, truth};
+ghost use Rattle.term.specs.Meaning.{of, operation as op-of, result as result-of, value as value-of, truth};
 ghost use Rattle.term.specs.Prefix.{term-at};
 use crate::signature::Operation;
 use crate::signature::Signature;
@@ -15,7 +15,7 @@ pub(crate) fn at(bytes: &[u8], i: usize) -> u8
 }
 
 fn operation(s: Signature, k: u8) -> Operation
-    ensures { λ r. ⌜ r ≡ op-of (s .entry) k ⌝ }
+    ensures { λ r. ⌜ r ≡ op-of (of (s .entry)) k ⌝ }
 {
     let k = k as usize;
     if k < s.operations.len() {
@@ -33,7 +33,7 @@ fn operation(s: Signature, k: u8) -> Operation
 
 // What an operation gives at the arguments `a` and `b`.
 fn result(s: Signature, o: Operation, a: u8, b: u8) -> u8
-    ensures { λ r. ⌜ r ≡ result-of (s .entry) o a b ⌝ }
+    ensures { λ r. ⌜ r ≡ result-of (of (s .entry)) o a b ⌝ }
 {
     let width = if o.arity == 2 {
         at(s.sizes, o.second as usize)
@@ -60,8 +60,8 @@ fn both(a: u8, b: u8) -> u8
 
 // The element that the term at the front of `bytes` means in a mode, and what follows the term.
 pub fn value<'f>(s: Signature, mode: &[u8], bytes: &'f [u8], depth: u8) -> (u8, &'f [u8])
-    ensures value { λ r. ⌜ r .0 ≡ value-of (s .entry) (now (mode .entry)) (term-at (s .entry) depth (now (bytes .entry)) .0) ⌝ }
-    ensures rest { λ r. ⌜ now (r .1) ≡ term-at (s .entry) depth (now (bytes .entry)) .1 ⌝ }
+    ensures value { λ r. ⌜ r .0 ≡ value-of (of (s .entry)) (now (mode .entry)) (term-at (of (s .entry)) depth (now (bytes .entry)) .0) ⌝ }
+    ensures rest { λ r. ⌜ now (r .1) ≡ term-at (of (s .entry)) depth (now (bytes .entry)) .1 ⌝ }
 {
     if depth == 0 {
         return (0, bytes);

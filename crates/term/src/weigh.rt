@@ -2,7 +2,7 @@ ghost use mathlib.Core.Path.{_≡_};
 ghost use mathlib.Core.Bool.{cond};
 ghost use Prim.Native.Nat.{_*_};
 ghost use lib.Dec.{eqb};
-ghost use Rattle.term.specs.Meaning.{copies-in, count};
+ghost use Rattle.term.specs.Meaning.{of, copies-in, count};
 ghost use Rattle.term.specs.Prefix.{bag-at};
 ghost use Rattle.term.specs.Worth.{Weighs, most, on-place};
 use crate::bag::bag_operation;
@@ -41,7 +41,7 @@ fn weigh_row<D: WeightDomain>(
     place: u8,
     sum: D::Value,
 ) -> D::Value
-    ensures { λ r. ⌜ Weighs (meaning (now (d .entry))) (now (codes .entry)) sum (on-place place (copies-in (s .entry) o argument)) 65025 r ⌝ }
+    ensures { λ r. ⌜ Weighs (meaning (now (d .entry))) (now (codes .entry)) sum (on-place place (copies-in (of (s .entry)) o argument)) 65025 r ⌝ }
 {
     let size = at(s.sizes, o.result as usize);
     let row = o.table as usize + argument as usize * size as usize;
@@ -63,8 +63,8 @@ pub fn weigh_bag<'f, D: WeightDomain>(
     place: u8,
     sum: D::Value,
 ) -> (D::Value, &'f [u8])
-    ensures sum { λ r. ⌜ Weighs (meaning (now (d .entry))) (now (codes .entry)) sum (on-place place (count (s .entry) (now (mode .entry)) (bag-at (s .entry) depth (now (bytes .entry)) .0))) (most (bag-at (s .entry) depth (now (bytes .entry)) .0)) (r .0) ⌝ }
-    ensures rest { λ r. ⌜ now (r .1) ≡ bag-at (s .entry) depth (now (bytes .entry)) .1 ⌝ }
+    ensures sum { λ r. ⌜ Weighs (meaning (now (d .entry))) (now (codes .entry)) sum (on-place place (count (of (s .entry)) (now (mode .entry)) (bag-at (of (s .entry)) depth (now (bytes .entry)) .0))) (most (bag-at (of (s .entry)) depth (now (bytes .entry)) .0)) (r .0) ⌝ }
+    ensures rest { λ r. ⌜ now (r .1) ≡ bag-at (of (s .entry)) depth (now (bytes .entry)) .1 ⌝ }
 {
     if depth == 0 {
         return (sum, bytes);

@@ -1,6 +1,6 @@
 // Traces: what was done on a bench, replayed and recorded.
-pub mod replay;
+pub mod replays;
 
-pub use replay::Replay;
-pub use replay::Stop;
-pub use replay::replay;
+pub use replays::Replayed;
+pub use replays::Stop;
+pub use replays::replay;

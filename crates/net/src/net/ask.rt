@@ -45,7 +45,7 @@ impl Net {
     }
 
     // The initial marking.
-    pub fn initial(&self) -> &[u16] {
+    pub fn initial(&self) -> &[u16; CELLS] {
         &self.initial
     }
 

@@ -8,7 +8,7 @@ use lib.Dec.{eqb}
 use lib.ListN.{getD, length, drop}
 use Rattle.std.proofs.shelf.Ways.{tells}
 use Rattle.term.specs.Counts.{Added}
-use Rattle.term.specs.Meaning.{value as value-of, count, bag-operation, copies-in}
+use Rattle.term.specs.Meaning.{of, value as value-of, count, bag-operation, copies-in}
 use Rattle.term.specs.Prefix.{begins, term-at, bag-at}
 use Rattle.term.proofs.Cuts.{tail}
 use Rattle.term.proofs.Tallies.{unchanged, after, alike, same-sum}
@@ -17,7 +17,7 @@ use Rattle.term.proofs.bag.+count_bag.Needs as need
 
 pub returns-then-depth-eq0 : need.returns-then-depth-eq0
 returns-then-depth-eq0 t c =
-    rw (bag-none (c .args .s) (c .args .depth) (c .args .bytes .now) (c .if-depth-eq0 .taken))
+    rw (bag-none (of (c .args .s)) (c .args .depth) (c .args .bytes .now) (c .if-depth-eq0 .taken))
     (record { counts = unchanged _ _ _ (λ i. c .typed .counts i .fits) (λ e. refl); rest = refl })
 
 pub returns-in-48 : need.returns-in-48
@@ -25,21 +25,21 @@ returns-in-48 t c =
     let bs = c .args .bytes .now in
     let h : 0 < length bs = search needs in
     let e : getD bs 0 0 ≡ 0x30 = search needs in
-    rw (at-empty (c .args .s) (c .args .depth) bs (omega arith) h e) (record { counts = unchanged _ _ _ (λ i. c .typed .counts i .fits) (λ e. refl); rest = tail 1 bs })
+    rw (at-empty (of (c .args .s)) (c .args .depth) bs (omega arith) h e) (record { counts = unchanged _ _ _ (λ i. c .typed .counts i .fits) (λ e. refl); rest = tail 1 bs })
 
 pub returns-in-49 : need.returns-in-49
 returns-in-49 t c =
     let bs = c .args .bytes .now in
     let h : 0 < length bs = search needs in
     let e : getD bs 0 0 ≡ 0x31 = search needs in
-    let q = first-part (term-at (c .args .s) (c .args .depth - 1)) (value-of (c .args .s) (c .args .mode .now)) (drop 1 bs) _ (tail 1 bs)
+    let q = first-part (term-at (of (c .args .s)) (c .args .depth - 1)) (value-of (of (c .args .s)) (c .args .mode .now)) (drop 1 bs) _ (tail 1 bs)
     (c .value-element .result .0) (c .value-element .result .1 .now) (c .value-element .ensures .value) (c .value-element .ensures .rest) in
-    rw (at-single (c .args .s) (c .args .depth) bs (omega arith) h e)
+    rw (at-single (of (c .args .s)) (c .args .depth) bs (omega arith) h e)
     (record { counts = alike _ _ _ _ _ (λ i. ap (λ v. cond (eqb v i) 1 0) (q .0)) (c .add .ensures); rest = q .1 })
 
 pub returns-in-50 : need.returns-in-50
 returns-in-50 t c =
-    let s = c .args .s in
+    let s = of (c .args .s) in
     let m = c .args .mode .now in
     let bs = c .args .bytes .now in
     let p = bag-at s (c .args .depth - 1) in
@@ -56,7 +56,7 @@ returns-in-50 t c =
 
 pub returns-in-51 : need.returns-in-51
 returns-in-51 t c =
-    let s = c .args .s in
+    let s = of (c .args .s) in
     let bs = c .args .bytes .now in
     let h : 1 < length bs = search needs in
     let e : getD bs 0 0 ≡ 0x33 = search needs in
@@ -73,17 +73,17 @@ returns-in-51 t c =
 pub returns-in-rest : need.returns-in-rest
 returns-in-rest t c =
     let bs = c .args .bytes .now in
-    rw (at-other (c .args .s) (c .args .depth) bs (omega arith) (grind (arith, tells)) (grind (arith, tells)) (grind (arith, tells)) (grind (arith, tells)))
+    rw (at-other (of (c .args .s)) (c .args .depth) bs (omega arith) (grind (arith, tells)) (grind (arith, tells)) (grind (arith, tells)) (grind (arith, tells)))
     (record { counts = unchanged _ _ _ (λ i. c .typed .counts i .fits) (λ e. refl); rest = refl })
 
 pub returns-in-rest·2 : need.returns-in-rest·2
 returns-in-rest·2 t c =
     let bs = c .args .bytes .now in
-    rw (at-other (c .args .s) (c .args .depth) bs (omega arith) (grind (arith, tells)) (grind (arith, tells)) (grind (arith, tells)) (grind (arith, tells)))
+    rw (at-other (of (c .args .s)) (c .args .depth) bs (omega arith) (grind (arith, tells)) (grind (arith, tells)) (grind (arith, tells)) (grind (arith, tells)))
     (record { counts = unchanged _ _ _ (λ i. c .typed .counts i .fits) (λ e. refl); rest = refl })
 
 pub returns-in-rest·3 : need.returns-in-rest·3
 returns-in-rest·3 t c =
     let bs = c .args .bytes .now in
-    rw (at-other (c .args .s) (c .args .depth) bs (omega arith) (grind (arith, tells)) (grind (arith, tells)) (grind (arith, tells)) (grind (arith, tells)))
+    rw (at-other (of (c .args .s)) (c .args .depth) bs (omega arith) (grind (arith, tells)) (grind (arith, tells)) (grind (arith, tells)) (grind (arith, tells)))
     (record { counts = unchanged _ _ _ (λ i. c .typed .counts i .fits) (λ e. refl); rest = refl })

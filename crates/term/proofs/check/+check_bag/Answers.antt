@@ -7,6 +7,7 @@ use lib.Dec.{lit<}
 use lib.ListN.{length, getD, drop, take}
 use Rattle.std.proofs.shelf.Results.{made-weaker}
 use Rattle.std.proofs.shelf.Ways.{tells}
+use Rattle.term.specs.Meaning.{of}
 use Rattle.term.specs.declared.fault.Fault.the-variants as fault
 use Rattle.term.specs.Check.{bad, check-bag, check-term, done, in-term, place, then}
 use Rattle.term.specs.Shape.{Passed, Passed-bag}
@@ -16,11 +17,11 @@ use Rattle.term.proofs.Steps.{still-shorter}
 use Rattle.term.proofs.check.+check_bag.Needs as need
 
 pub returns-in-empty : need.returns-in-empty
-returns-in-empty t c = record { value = ap bad (c .refused-in-empty .ensures) ∙ ends-here (c .args .s) (c .args .variables .now) (c .args .ends) (c .args .want) (c .args .bytes .now) (c .args .depth) (search needs); shorter = tt; passed = tt }
+returns-in-empty t c = record { value = ap bad (c .refused-in-empty .ensures) ∙ ends-here (of (c .args .s)) (c .args .variables .now) (c .args .ends) (c .args .want) (c .args .bytes .now) (c .args .depth) (search needs); shorter = tt; passed = tt }
 
 pub returns-in-48-to-51 : need.returns-in-48-to-51
 returns-in-48-to-51 t c =
-    let s = c .args .s in
+    let s = of (c .args .s) in
     let vars = c .args .variables .now in
     let ends = c .args .ends in
     let want = c .args .want in
@@ -34,7 +35,7 @@ returns-in-48-to-51 t c =
 
 pub returns-in-len1-up : need.returns-in-len1-up
 returns-in-len1-up t c =
-    let s = c .args .s in
+    let s = of (c .args .s) in
     let vars = c .args .variables .now in
     let ends = c .args .ends in
     let want = c .args .want in
@@ -46,7 +47,7 @@ returns-in-len1-up t c =
 
 pub returns-in-48 : need.returns-in-48
 returns-in-48 t c =
-    let s = c .args .s in
+    let s = of (c .args .s) in
     let vars = c .args .variables .now in
     let ends = c .args .ends in
     let want = c .args .want in
@@ -64,7 +65,7 @@ returns-in-48 t c =
 
 pub returns-in-49 : need.returns-in-49
 returns-in-49 t c =
-    let s = c .args .s in
+    let s = of (c .args .s) in
     let vars = c .args .variables .now in
     let ends = c .args .ends in
     let want = c .args .want in
@@ -83,7 +84,7 @@ returns-in-49 t c =
 
 pub returns-in-Ok : need.returns-in-Ok
 returns-in-Ok t c =
-    let s = c .args .s in
+    let s = of (c .args .s) in
     let vars = c .args .variables .now in
     let ends = c .args .ends in
     let want = c .args .want in
@@ -107,7 +108,7 @@ returns-in-Ok t c =
 
 pub returns-in-Err : need.returns-in-Err
 returns-in-Err t c =
-    let s = c .args .s in
+    let s = of (c .args .s) in
     let vars = c .args .variables .now in
     let ends = c .args .ends in
     let want = c .args .want in
@@ -121,7 +122,7 @@ returns-in-Err t c =
 
 pub returns-in-Ok-flexible : need.returns-in-Ok-flexible
 returns-in-Ok-flexible t c =
-    let s = c .args .s in
+    let s = of (c .args .s) in
     let vars = c .args .variables .now in
     let ends = c .args .ends in
     let want = c .args .want in
@@ -141,7 +142,7 @@ returns-in-Ok-flexible t c =
 
 pub returns-in-Err-flexible : need.returns-in-Err-flexible
 returns-in-Err-flexible t c =
-    let s = c .args .s in
+    let s = of (c .args .s) in
     let vars = c .args .variables .now in
     let ends = c .args .ends in
     let want = c .args .want in

@@ -7,7 +7,7 @@ use borrow.Author.Needs.{needs}
 use lib.Dec.{eqb}
 use lib.ListN.{getD, length, drop, take}
 use Rattle.std.proofs.shelf.Ways.{tells}
-use Rattle.term.specs.Meaning.{value as value-of, count, bag-operation, copies-in}
+use Rattle.term.specs.Meaning.{of, value as value-of, count, bag-operation, copies-in}
 use Rattle.term.specs.Prefix.{begins, term-at, bag-at}
 use Rattle.term.specs.Worth.{most}
 use Rattle.term.proofs.Cuts.{tail}
@@ -19,7 +19,7 @@ use Rattle.term.proofs.weigh.+weigh_bag.Needs as need
 pub returns-then-depth-eq0 : need.returns-then-depth-eq0
 returns-then-depth-eq0 g t c =
     let law = g .D·WeightDomain·met .lawful (c .args .d .now) in
-    rw (bag-none (c .args .s) (c .args .depth) (c .args .bytes .now) (c .if-depth-eq0 .taken))
+    rw (bag-none (of (c .args .s)) (c .args .depth) (c .args .bytes .now) (c .if-depth-eq0 .taken))
     (record { sum = nothing-on law (c .args .codes .now) (c .args .place) (c .args .sum) (λ e. 0) 0 (λ e. refl); rest = refl })
 
 pub returns-in-48 : need.returns-in-48
@@ -28,7 +28,7 @@ returns-in-48 g t c =
     let bs = c .args .bytes .now in
     let h : 0 < length bs = search needs in
     let e : getD bs 0 0 ≡ 0x30 = search needs in
-    rw (at-empty (c .args .s) (c .args .depth) bs (omega arith) h e)
+    rw (at-empty (of (c .args .s)) (c .args .depth) bs (omega arith) h e)
     (record { sum = nothing-on law (c .args .codes .now) (c .args .place) (c .args .sum) (λ e. 0) 0 (λ e. refl); rest = tail 1 bs })
 
 pub returns-in-49 : need.returns-in-49
@@ -37,11 +37,11 @@ returns-in-49 g t c =
     let bs = c .args .bytes .now in
     let h : 0 < length bs = search needs in
     let e : getD bs 0 0 ≡ 0x31 = search needs in
-    let q = first-part (term-at (c .args .s) (c .args .depth - 1)) (value-of (c .args .s) (c .args .mode .now)) (drop 1 bs) _ (tail 1 bs)
+    let q = first-part (term-at (of (c .args .s)) (c .args .depth - 1)) (value-of (of (c .args .s)) (c .args .mode .now)) (drop 1 bs) _ (tail 1 bs)
     (c .value-element .result .0) (c .value-element .result .1 .now) (c .value-element .ensures .value) (c .value-element .ensures .rest) in
     let v = c .value-element .result .0 in
-    let x = value-of (c .args .s) (c .args .mode .now) (term-at (c .args .s) (c .args .depth - 1) (drop 1 bs) .0) in
-    rw (at-single (c .args .s) (c .args .depth) bs (omega arith) h e)
+    let x = value-of (of (c .args .s)) (c .args .mode .now) (term-at (of (c .args .s)) (c .args .depth - 1) (drop 1 bs) .0) in
+    rw (at-single (of (c .args .s)) (c .args .depth) bs (omega arith) h e)
     (record {
       sum = alike-on law (c .args .codes .now) (c .args .place) (c .args .sum) (c .weigh .result) (λ i. cond (eqb v i) 1 0) (λ i. cond (eqb x i) 1 0) 1 1
           (λ i. ap (λ z. cond (eqb z i) 1 0) (q .0)) (omega arith) (c .weigh .ensures);
@@ -51,7 +51,7 @@ returns-in-49 g t c =
 pub returns-in-50 : need.returns-in-50
 returns-in-50 g t c =
     let law = g .D·WeightDomain·met .lawful (c .args .d .now) in
-    let s = c .args .s in
+    let s = of (c .args .s) in
     let m = c .args .mode .now in
     let bs = c .args .bytes .now in
     let p = bag-at s (c .args .depth - 1) in
@@ -79,7 +79,7 @@ returns-in-50 g t c =
 pub returns-in-51 : need.returns-in-51
 returns-in-51 g t c =
     let law = g .D·WeightDomain·met .lawful (c .args .d .now) in
-    let s = c .args .s in
+    let s = of (c .args .s) in
     let bs = c .args .bytes .now in
     let h : 1 < length bs = search needs in
     let e : getD bs 0 0 ≡ 0x33 = search needs in
@@ -99,5 +99,5 @@ pub returns-in-rest : need.returns-in-rest
 returns-in-rest g t c =
     let law = g .D·WeightDomain·met .lawful (c .args .d .now) in
     let bs = c .args .bytes .now in
-    rw (at-other (c .args .s) (c .args .depth) bs (omega arith) (grind (arith, tells)) (grind (arith, tells)) (grind (arith, tells)) (grind (arith, tells)))
+    rw (at-other (of (c .args .s)) (c .args .depth) bs (omega arith) (grind (arith, tells)) (grind (arith, tells)) (grind (arith, tells)) (grind (arith, tells)))
     (record { sum = nothing-on law (c .args .codes .now) (c .args .place) (c .args .sum) (λ e. 0) 0 (λ e. refl); rest = refl })

@@ -6,7 +6,7 @@ use native.Mathlib.Omega.{arith}
 use borrow.Author.Needs.{needs}
 use lib.Dec.{eqb, ltb}
 use lib.ListN.{getD}
-use Rattle.term.specs.Meaning.{copies-in}
+use Rattle.term.specs.Meaning.{of, copies-in}
 use Rattle.term.proofs.Sums.{after-on, alike-on, nothing-on}
 use Rattle.term.proofs.Tallies.{none-below, one-more}
 use Rattle.term.proofs.weigh.weigh_row.Needs as need
@@ -43,7 +43,7 @@ returns g c =
     let small : size < 256 = c .at-size .ok in
     let is = c .at-size .ensures in
     let f : ℕ → ℕ = λ i. cond (ltb i (c .loop-e .e)) (getD tables (t + a * size + i) 0) 0 in
-    alike-on (g .D·WeightDomain·met .lawful (c .args .d .now)) (c .args .codes .now) (c .args .place) (c .args .sum) (c .loop-e .sum) f (copies-in (c .args .s) (c .args .o) a) (255 * c .loop-e .e) 65025
+    alike-on (g .D·WeightDomain·met .lawful (c .args .d .now)) (c .args .codes .now) (c .args .place) (c .args .sum) (c .loop-e .sum) f (copies-in (of (c .args .s)) (c .args .o) a) (255 * c .loop-e .e) 65025
     (λ j. ap (λ k. cond (ltb j k) (getD tables (t + a * size + j) 0) 0) all
     ∙ ap (λ k. cond (ltb j size) (getD tables k 0) 0) (add-assoc t (a * size) j)
     ∙ ap (λ k. cond (ltb j k) (getD tables (t + (a * k + j)) 0) 0) is)

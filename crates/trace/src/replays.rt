@@ -1,3 +1,6 @@
+ghost use lib.ListN.{length};
+ghost use Rattle.trace.specs.Steps.{Shorter};
+use bench::Counts;
 use bench::Firing;
 use bench::back_on;
 use bench::begin_on;
@@ -11,7 +14,7 @@ use term::Fault;
 pub const LONGEST: usize = 65536;
 
 // Where a replay stopped: the fault, and the cell or the byte that it names, else 0.
-#[derive(Clone, Copy, Debug)]
+#[derive(Clone, Copy)]
 pub struct Stop {
     pub fault: Fault,
     pub place: usize,
@@ -19,7 +22,7 @@ pub struct Stop {
 
 // How many commands were carried out, and the fault that stopped the replay, if any.
 #[derive(Clone, Copy)]
-pub struct Replay {
+pub struct Replayed {
     pub carried: u32,
     pub stop: Option<Stop>,
 }
@@ -35,11 +38,13 @@ fn at_cell(fault: Fault) -> Stop {
 // Carries out the first command of `bytes` and gives what follows it, or None at the end.
 fn step<'f>(
     net: &Net,
-    counts: &mut [u16],
+    counts: &mut Counts,
     trail: &mut LentList<Firing>,
     bytes: &'f [u8],
     ends: usize,
-) -> Result<Option<&'f [u8]>, Stop> {
+) -> Result<Option<&'f [u8]>, Stop>
+    ensures { λ r. ⌜ Shorter r (length (now (bytes .entry))) ⌝ }
+{
     let at = ends.saturating_sub(bytes.len());
     match bytes {
         [0x40, t, a, b, c, d, rest @ ..] => {
@@ -64,7 +69,7 @@ fn step<'f>(
 }
 
 // Carries out the commands of `bytes` in their order up to the first that is turned down.
-fn run(net: &Net, counts: &mut [u16], trail: &mut LentList<Firing>, bytes: &[u8]) -> Replay {
+fn run(net: &Net, counts: &mut Counts, trail: &mut LentList<Firing>, bytes: &[u8]) -> Replayed {
     let mut rest = bytes;
     let mut carried: u32 = 0;
     'commands: loop {
@@ -73,18 +78,19 @@ fn run(net: &Net, counts: &mut [u16], trail: &mut LentList<Firing>, bytes: &[u8]
                 rest = next;
                 carried = carried.saturating_add(1);
             }
-            Ok(None) => return Replay { carried, stop: None },
-            Err(stop) => return Replay { carried, stop: Some(stop) },
+            Ok(None) => return Replayed { carried, stop: None },
+            Err(stop) => return Replayed { carried, stop: Some(stop) },
         }
     }
 }
 
 // Replays a trace on a new bench in lent memory.
-pub fn replay(net: &Net, counts: &mut [u16], trail: &mut LentList<Firing>, bytes: &[u8]) -> Result<Replay, Fault> {
-    measure(counts)?;
-    begin_on(net, counts, trail);
+pub fn replay(net: &Net, cells: &mut [u16], trail: &mut LentList<Firing>, bytes: &[u8]) -> Result<Replayed, Fault> {
+    measure(cells)?;
+    let mut counts = Counts::over(cells);
+    begin_on(net, &mut counts, trail);
     if bytes.len() > LONGEST {
-        return Ok(Replay { carried: 0, stop: Some(Stop { fault: Fault::TooLong, place: LONGEST }) });
+        return Ok(Replayed { carried: 0, stop: Some(Stop { fault: Fault::TooLong, place: LONGEST }) });
     }
-    Ok(run(net, counts, trail, bytes))
+    Ok(run(net, &mut counts, trail, bytes))
 }
