@@ -1,3 +1,6 @@
+ghost use mathlib.Core.Path.{_≡_};
+ghost use Rattle.format.specs.Commands.{code-of};
+
 // The codes of a net file's commands.
 #[derive(Clone, Copy, PartialEq, Eq, Debug)]
 pub enum Code {
@@ -42,7 +45,9 @@ pub enum Command<'f> {
 
 impl Code {
     // The command that a byte stands for.
-    pub fn of(byte: u8) -> Option<Code> {
+    pub fn of(byte: u8) -> Option<Code>
+        ensures { λ r. ⌜ r ≡ code-of byte ⌝ }
+    {
         match byte {
             0x01 => Some(Code::Sort),
             0x02 => Some(Code::Operation),

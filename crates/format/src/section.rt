@@ -1,3 +1,5 @@
+ghost use mathlib.Core.Path.{_≡_};
+ghost use Rattle.format.specs.Order.{after, enters, stays};
 use crate::command::Code;
 
 // The section that is open. A guard may stand only where the transition is fresh.
@@ -19,12 +21,17 @@ pub struct Order {
 
 impl Order {
     // The start of a file.
-    pub fn new() -> Order {
+    pub fn new() -> Order
+        ensures { λ r. ⌜ r .section ≡ Section.Sorts ⌝ }
+    {
         Order { section: Section::Sorts }
     }
 
     // Moves to the section of a command, or answers false and stays.
-    pub fn enter(&mut self, code: Code) -> bool {
+    pub fn enter(&mut self, code: Code) -> bool
+        ensures opens { λ r. ⌜ after r (now (self .exit) .section) ≡ enters (now (self .entry) .section) code ⌝ }
+        ensures leaves { λ r. ⌜ now (self .exit) .section ≡ stays (enters (now (self .entry) .section) code) (now (self .entry) .section) ⌝ }
+    {
         match (&mut self.section, code) {
             (Section::Sorts, Code::Sort) => true,
             (section @ (Section::Sorts | Section::Operations), Code::Operation | Code::BagOperation) => {

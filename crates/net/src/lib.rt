@@ -1,5 +1,6 @@
 // Nets: the reader, and what judging and firing ask of a net.
 pub mod net;
+pub mod parts;
 pub mod reader;
 
 pub use net::CELLS;

@@ -65,9 +65,6 @@ impl<'f> Reader<'f> {
         }
         let (command, rest) = parse(net.context(), net.last_kind(), code, bytes, ends)?;
         net.carry_out(command)?;
-        if rest.len() >= bytes.len() {
-            return Err(ReadError::File(refused(Fault::Ends, ends)));
-        }
         self.rest = rest;
         match command {
             Command::End => Ok(false),

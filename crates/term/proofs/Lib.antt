@@ -1,5 +1,6 @@
 pub mod BagSteps
 pub mod Cuts
+pub mod Loads
 pub mod Shapes
 pub mod Steps
 pub mod Sums

@@ -1,8 +1,12 @@
 // A net as it is read, command by command.
-use super::Arc;
+ghost use mathlib.Core.Path.{_≡_};
+ghost use Rattle.term.specs.Meaning.{of};
+ghost use Rattle.net.specs.Nets.{sig};
 use super::CELLS;
 use super::Net;
-use super::Transition;
+use crate::parts::Arc;
+use crate::parts::Transition;
+use crate::reader::LONGEST;
 use domain::Kind;
 use format::Code;
 use format::Command;
@@ -65,7 +69,9 @@ impl Net {
         }
     }
 
-    pub(crate) fn signature(&self) -> Signature<'_> {
+    pub(crate) fn signature(&self) -> Signature<'_>
+        ensures { λ r. ⌜ of r ≡ sig (now (self .entry)) ⌝ }
+    {
         Signature {
             sizes: self.sizes.as_slice(),
             operations: self.operations.as_slice(),
@@ -121,14 +127,17 @@ impl Net {
             sizes,
             guarded: false,
             guard: 0,
-            first_arc: arcs,
-            last_arc: arcs,
+            from: arcs,
+            to: arcs,
         })?;
         Ok(())
     }
 
     fn add_guard(&mut self, term: &[u8]) -> Result<(), AllocError> {
         let from = self.terms.len();
+        if term.len() > LONGEST - from {
+            return Err(AllocError);
+        }
         self.terms.extend_from_slice(term)?;
         if let Some(t) = self.transitions.last_mut() {
             t.guarded = true;
@@ -139,11 +148,14 @@ impl Net {
 
     fn add_arc(&mut self, direction: Direction, place: u8, bag: &[u8]) -> Result<(), AllocError> {
         let from = self.terms.len();
+        if bag.len() > LONGEST - from {
+            return Err(AllocError);
+        }
         self.terms.extend_from_slice(bag)?;
-        self.arcs.push(Arc { direction, place, bag: from })?;
+        self.arcs.push(Arc { direction, place, from, bytes: bag.len() })?;
         let arcs = self.arcs.len();
         if let Some(t) = self.transitions.last_mut() {
-            t.last_arc = arcs;
+            t.to = arcs;
         }
         Ok(())
     }

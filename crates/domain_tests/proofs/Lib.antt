@@ -1,0 +1,2 @@
+mod Heights
+mod Totals

@@ -1,0 +1,4 @@
+pub mod Claims
+pub mod Handed
+pub mod Tables
+pub mod Terms
