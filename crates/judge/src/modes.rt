@@ -1,3 +1,6 @@
+ghost use mathlib.Core.Path.{_≡_};
+ghost use lib.ListN.{length};
+ghost use Rattle.judge.specs.Judged.{Judged, Judged-modes};
 use crate::verdict::Verdict;
 use domain::WeightDomain;
 use format::Direction;
@@ -6,7 +9,9 @@ use net::Net;
 use term::Fault;
 
 // Judges the modes of one transition, the first variable slowest.
-fn judge_modes<D: WeightDomain>(net: &Net, t: usize, d: &D, codes: &[i32]) -> Verdict<D::Value> {
+fn judge_modes<D: WeightDomain>(net: &Net, t: usize, d: &D, codes: &[i32]) -> Verdict<D::Value>
+    ensures { λ r. ⌜ Judged-modes (meaning (now (d .entry))) (now (codes .entry)) (now (net .entry)) t r ⌝ }
+{
     let mut seen: u32 = 0;
     for i in 0..net.modes(t) {
         let mode = net.mode(t, i);
@@ -22,7 +27,9 @@ fn judge_modes<D: WeightDomain>(net: &Net, t: usize, d: &D, codes: &[i32]) -> Ve
 }
 
 // Judges all transitions in the order of the file.
-fn judge_all<D: WeightDomain>(net: &Net, d: &D, codes: &[i32]) -> Verdict<D::Value> {
+fn judge_all<D: WeightDomain>(net: &Net, d: &D, codes: &[i32]) -> Verdict<D::Value>
+    ensures { λ r. ⌜ Judged (meaning (now (d .entry))) (now (codes .entry)) (now (net .entry)) r ⌝ }
+{
     let mut seen: u32 = 0;
     for t in 0..net.transitions() {
         match judge_modes(net, t, d, codes) {

@@ -1,2 +1,3 @@
 pub mod Spans
 pub mod Nets
+pub mod Runs
