@@ -1,6 +1,6 @@
+use crate::modes::are_weights;
 use crate::modes::judge_codes;
-use crate::modes::measure;
-use crate::modes::write_weights;
+use crate::modes::measured;
 use crate::verdict::Verdict;
 use domain::Measuring;
 use domain::Most;
@@ -41,14 +41,19 @@ pub fn cap<M: Measuring>(
     before: &mut [u32],
     after: &mut [u32],
 ) -> Result<Most, Fault> {
-    measure(codes, before, after)?;
+    if !measured(codes, before, after) {
+        return Err(Fault::Memory);
+    }
     if claim >= net.claims() {
         return Err(Fault::NoClaim);
     }
     if !net.has_cell(cell) || cell >= codes.len() {
         return Err(Fault::NoCell);
     }
-    write_weights(net, claim, m, codes)?;
+    net.write_codes(claim, codes);
+    if !are_weights(m, codes) {
+        return Err(Fault::NoWeight);
+    }
     if !are_plain(m, codes) {
         return Err(Fault::NotPlain);
     }

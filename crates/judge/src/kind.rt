@@ -1,6 +1,6 @@
 use crate::caps::cap;
 use crate::modes::judge;
-use crate::modes::measure;
+use crate::modes::measured;
 use crate::verdict::Outcome;
 use domain::Equal;
 use domain::EqualDomain;
@@ -28,7 +28,9 @@ pub fn judge_by_kind(
     before: &mut [u32],
     after: &mut [u32],
 ) -> Result<Outcome, Fault> {
-    measure(codes, before, after)?;
+    if !measured(codes, before, after) {
+        return Err(Fault::Memory);
+    }
     let Some(kind) = net.kind(claim) else {
         return Err(Fault::NoClaim);
     };
@@ -51,7 +53,9 @@ pub fn cap_by_kind(
     before: &mut [u32],
     after: &mut [u32],
 ) -> Result<Most, Fault> {
-    measure(codes, before, after)?;
+    if !measured(codes, before, after) {
+        return Err(Fault::Memory);
+    }
     let Some(kind) = net.kind(claim) else {
         return Err(Fault::NoClaim);
     };
@@ -77,7 +81,9 @@ pub fn survey(
     after: &mut [u32],
     sheet: &mut LentList<Outcome>,
 ) -> Result<(), Fault> {
-    measure(codes, before, after)?;
+    if !measured(codes, before, after) {
+        return Err(Fault::Memory);
+    }
     if sheet.capacity().saturating_sub(sheet.len()) < net.claims() {
         return Err(Fault::TrailFull);
     }

@@ -1,5 +1,5 @@
-ghost use mathlib.Core.Path.{_≡_};
-ghost use lib.ListN.{length};
+ghost use Rattle.domain.specs.Meaning.{Tells};
+ghost use Rattle.judge.specs.Calls.{All-weigh, Called, Measured, Verdict-on};
 ghost use Rattle.judge.specs.Judged.{Judged, Judged-modes};
 use crate::verdict::Verdict;
 use domain::WeightDomain;
@@ -43,24 +43,22 @@ fn judge_all<D: WeightDomain>(net: &Net, d: &D, codes: &[i32]) -> Verdict<D::Val
 }
 
 // Whether the memory that a caller lends has the stated length.
-pub(crate) fn measure(codes: &[i32], before: &[u32], after: &[u32]) -> Result<(), Fault> {
-    if codes.len() == CELLS && before.len() == CELLS && after.len() == CELLS { Ok(()) } else { Err(Fault::Memory) }
+pub(crate) fn measured(codes: &[i32], before: &[u32], after: &[u32]) -> bool
+    ensures { λ r. ⌜ Tells r (Measured (now (codes .entry)) (now (before .entry)) (now (after .entry))) ⌝ }
+{
+    codes.len() == CELLS && before.len() == CELLS && after.len() == CELLS
 }
 
 // Whether every code is a weight.
-fn are_weights<D: WeightDomain>(d: &D, codes: &[i32]) -> bool {
+pub(crate) fn are_weights<D: WeightDomain>(d: &D, codes: &[i32]) -> bool
+    ensures { λ r. ⌜ Tells r (All-weigh (meaning (now (d .entry))) (now (codes .entry))) ⌝ }
+{
     for code in codes {
         if !d.is_weight(*code) {
             return false;
         }
     }
     true
-}
-
-// Writes the codes of a claim, which must be weights of the domain.
-pub(crate) fn write_weights<D: WeightDomain>(net: &Net, claim: usize, d: &D, codes: &mut [i32]) -> Result<(), Fault> {
-    net.write_codes(claim, codes);
-    if are_weights(d, codes) { Ok(()) } else { Err(Fault::NoWeight) }
 }
 
 // Judges the codes in memory; then the counts are t− and t+ of the mode named if broken, else 0.
@@ -70,15 +68,24 @@ pub(crate) fn judge_codes<D: WeightDomain>(
     codes: &[i32],
     before: &mut [u32],
     after: &mut [u32],
-) -> Verdict<D::Value> {
-    let verdict = judge_all(net, d, codes);
-    before.fill(0);
-    after.fill(0);
-    if let Verdict::Broken { transition, mode, before: _, after: _ } = &verdict {
-        net.count(*transition, *mode, Direction::In, before);
-        net.count(*transition, *mode, Direction::Out, after);
+) -> Verdict<D::Value>
+    requires { ⌜ Measured (now codes) (now before) (now after) ⌝ }
+    ensures { λ r. ⌜ Verdict-on (meaning (now (d .entry))) (now (codes .entry)) (now (net .entry)) r (now (before .exit)) (now (after .exit)) ⌝ }
+{
+    match judge_all(net, d, codes) {
+        Verdict::Accepted { modes } => {
+            before.fill(0);
+            after.fill(0);
+            Verdict::Accepted { modes }
+        }
+        Verdict::Broken { transition, mode, before: v, after: w } => {
+            before.fill(0);
+            after.fill(0);
+            net.count(transition, mode, Direction::In, before);
+            net.count(transition, mode, Direction::Out, after);
+            Verdict::Broken { transition, mode, before: v, after: w }
+        }
     }
-    verdict
 }
 
 // Judges a claim under a domain that the caller gives.
@@ -89,11 +96,18 @@ pub fn judge<D: WeightDomain>(
     codes: &mut [i32],
     before: &mut [u32],
     after: &mut [u32],
-) -> Result<Verdict<D::Value>, Fault> {
-    measure(codes, before, after)?;
+) -> Result<Verdict<D::Value>, Fault>
+    ensures { λ r. ⌜ Called (meaning (now (d .entry))) (now (net .entry)) claim (record { codes = now (codes .entry); before = now (before .entry); after = now (after .entry) }) (record { codes = now (codes .exit); before = now (before .exit); after = now (after .exit) }) r ⌝ }
+{
+    if !measured(codes, before, after) {
+        return Err(Fault::Memory);
+    }
     if claim >= net.claims() {
         return Err(Fault::NoClaim);
     }
-    write_weights(net, claim, d, codes)?;
+    net.write_codes(claim, codes);
+    if !are_weights(d, codes) {
+        return Err(Fault::NoWeight);
+    }
     Ok(judge_codes(net, d, codes, before, after))
 }

@@ -4,6 +4,7 @@ use mathlib.Core.List.{List, [], _∷_}
 use mathlib.Core.Bool.{Bool, true, false, cond, _&&_}
 use Prim.Native.Nat.{ℕ, _+_, _-_, _*_, _/_, _%_, _^_, _<_, _≤_, min}
 use lib.Dec.{eqb, leb, ltb}
+use lib.IntN.{ℤ}
 use lib.ListN.{drop, getD, length, take}
 use Rattle.std.specs.Of.Vec.{vec-items, vec-len}
 use Rattle.format.specs.declared.command.Direction.{Direction}
@@ -90,3 +91,7 @@ pub record Mode (ns m : List ℕ) : Type 0 where
 -- a marking is added to counts, each held at the largest number of 32 bits
 abbrev pub Tallied : List ℕ → List ℕ → Marking → Type 0
 Tallied before after m = (c : ℕ) → c < length before → getD after c 0 ≡ min (getD before c 0 + m c) (2 ^ 32 - 1)
+
+-- the codes of a claim, one for each of 1,024 cells
+abbrev pub codes-of : Net → ℕ → List ℤ
+codes-of n k = take 1024 (drop (1024 * k) (vec-items (n .codes)))

@@ -1,4 +1,4 @@
-ghost use Prim.Native.Nat.{_≤_};
+ghost use Prim.Native.Nat.{_*_, _≤_};
 ghost use Rattle.std.specs.Of.Vec.{vec-items, vec-len};
 ghost use Rattle.net.specs.Spans.{spans};
 use crate::parts::Arc;
@@ -14,7 +14,7 @@ pub mod build;
 pub const CELLS: usize = 1024;
 
 // A net with its initial marking and its claims. The bags of its arcs are short enough that no sum of a
-// side's weights or counts passes its bounds.
+// side's weights or counts passes its bounds, and each claim has a code for each cell.
 #[derive(Drop)]
 pub struct Net {
     pub(crate) sizes: Vec<u8>,
@@ -30,4 +30,5 @@ pub struct Net {
     pub(crate) codes: Vec<i32>,
     ghost within: { spans (vec-items arcs) ≤ vec-len terms },
     ghost short: { vec-len terms ≤ 65536 },
+    ghost coded: { 1024 * vec-len claims ≤ vec-len codes },
 }

@@ -1,12 +1,12 @@
 // What judging and firing ask of a net.
 ghost use mathlib.Core.Path.{_≡_};
-ghost use Prim.Native.Nat.{_/_};
-ghost use lib.ListN.{drop, take};
+ghost use Prim.Native.Nat.{_/_, _<_, _≤_};
+ghost use lib.ListN.{drop, length, take};
 ghost use Rattle.std.specs.Of.Vec.{vec-items, vec-len};
 ghost use Rattle.term.specs.Worth.{Weighs, value-of};
 ghost use Rattle.domain.specs.Meaning.{Tells};
 ghost use Rattle.format.specs.Format.{mode-count};
-ghost use Rattle.net.specs.Nets.{Mode, Tallied, arcs-of, digit, given, goes, guard-holds, load, mode-of, side, taken, transition};
+ghost use Rattle.net.specs.Nets.{Mode, Tallied, arcs-of, codes-of, digit, given, goes, guard-holds, load, mode-of, side, taken, transition};
 use super::CELLS;
 use super::Net;
 use crate::parts::Arc;
@@ -92,13 +92,15 @@ impl Net {
         self.claims.get(claim).copied()
     }
 
-    // Writes the codes of a claim; a claim that the net has not leaves them.
-    pub fn write_codes(&self, claim: usize, codes: &mut [i32]) {
-        let from = CELLS.saturating_mul(claim);
-        for (c, code) in codes.iter_mut().enumerate() {
-            if c < CELLS && from.saturating_add(c) < self.codes.len() {
-                *code = self.codes[from.saturating_add(c)];
-            }
+    // Writes the codes of a claim into memory of the stated length, and nothing else.
+    pub fn write_codes(&self, claim: usize, codes: &mut [i32])
+        ensures written { λ _. ⌜ (claim < vec-len (now (self .entry) .claims) → length (now (codes .entry)) ≡ 1024 → now (codes .exit) ≡ codes-of (now (self .entry)) claim) ⌝ }
+        ensures none { λ _. ⌜ (vec-len (now (self .entry) .claims) ≤ claim → now (codes .exit) ≡ now (codes .entry)) ⌝ }
+    {
+        if claim < self.claims.len() && codes.len() == CELLS {
+            let from = CELLS * claim;
+            let all = self.codes.as_slice();
+            codes.copy_from_slice(&all[from..from + CELLS]);
         }
     }
 

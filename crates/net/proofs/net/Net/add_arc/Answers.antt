@@ -22,7 +22,7 @@ ghost-self-in-Some c =
     let room : length (c .args .bag .now) ≤ 65536 - vec-len (n .terms) = search needs in
     let within = n .within in
     let short = n .short in
-    (omega arith, (omega arith, tt))
+    (omega arith, (omega arith, (n .coded, tt)))
 
 pub ghost-self-in-rest : need.ghost-self-in-rest
 ghost-self-in-rest c =
@@ -32,4 +32,4 @@ ghost-self-in-rest c =
     let room : length (c .args .bag .now) ≤ 65536 - vec-len (n .terms) = search needs in
     let within = n .within in
     let short = n .short in
-    (omega arith, (omega arith, tt))
+    (omega arith, (omega arith, (n .coded, tt)))
