@@ -17,7 +17,11 @@ pub struct Bench<'n, 'a, 'c, 'b> {
 
 impl<'n, 'a, 'c, 'b> Bench<'n, 'a, 'c, 'b> {
     // A new bench, with the initial marking and an empty trail.
-    pub fn begin(net: &'n Net, counts: &'a mut Counts<'c>, trail: &'a mut LentList<'b, Firing>) -> Bench<'n, 'a, 'c, 'b> {
+    pub fn begin(
+        net: &'n Net,
+        counts: &'a mut Counts<'c>,
+        trail: &'a mut LentList<'b, Firing>,
+    ) -> Bench<'n, 'a, 'c, 'b> {
         begin_on(net, counts, trail);
         Bench { net, counts, trail }
     }
@@ -42,6 +46,10 @@ impl<'n, 'a, 'c, 'b> Bench<'n, 'a, 'c, 'b> {
 
     // How many tokens a cell holds.
     pub fn count(&self, cell: usize) -> Result<u16, Fault> {
-        if self.net.has_cell(cell) { Ok(self.counts.at(cell)) } else { Err(Fault::NoCell) }
+        if self.net.has_cell(cell) {
+            Ok(self.counts.at(cell))
+        } else {
+            Err(Fault::NoCell)
+        }
     }
 }

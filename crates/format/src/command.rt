@@ -29,17 +29,54 @@ pub enum Direction {
 // A command of a net file. Tables, terms and bags are parts of the file.
 #[derive(Clone, Copy)]
 pub enum Command<'f> {
-    Sort { size: u8 },
-    Operation { arity: u8, first: u8, second: u8, result: u8, table: &'f [u8] },
-    BagOperation { argument: u8, result: u8, table: &'f [u8] },
-    Place { sort: u8 },
-    Tokens { place: u8, element: u8, count: u16 },
-    Transition { variables: u8, sorts: [u8; 4] },
-    Guard { term: &'f [u8] },
-    Arc { direction: Direction, place: u8, bag: &'f [u8] },
-    Claim { kind: u8, modulus: u16 },
-    PlaceWeight { place: u8, code: i32 },
-    ElementWeight { place: u8, element: u8, code: i32 },
+    Sort {
+        size: u8,
+    },
+    Operation {
+        arity: u8,
+        first: u8,
+        second: u8,
+        result: u8,
+        table: &'f [u8],
+    },
+    BagOperation {
+        argument: u8,
+        result: u8,
+        table: &'f [u8],
+    },
+    Place {
+        sort: u8,
+    },
+    Tokens {
+        place: u8,
+        element: u8,
+        count: u16,
+    },
+    Transition {
+        variables: u8,
+        sorts: [u8; 4],
+    },
+    Guard {
+        term: &'f [u8],
+    },
+    Arc {
+        direction: Direction,
+        place: u8,
+        bag: &'f [u8],
+    },
+    Claim {
+        kind: u8,
+        modulus: u16,
+    },
+    PlaceWeight {
+        place: u8,
+        code: i32,
+    },
+    ElementWeight {
+        place: u8,
+        element: u8,
+        code: i32,
+    },
     End,
 }
 

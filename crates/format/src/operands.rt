@@ -33,28 +33,44 @@ type Parsed<'f> = Result<(Command<'f>, &'f [u8]), FileFault>;
 pub fn refused(fault: Fault, place: usize) -> FileFault
     ensures { λ r. ⌜ r ≡ in-command fault place ⌝ }
 {
-    FileFault { fault, place, stage: Stage::Command }
+    FileFault {
+        fault,
+        place,
+        stage: Stage::Command,
+    }
 }
 
 // The size of a sort, 0 where it is not declared.
 pub fn size(sizes: &[u8], sort: u8) -> u8
     ensures { λ r. ⌜ r ≡ size-of (now (sizes .entry)) sort ⌝ }
 {
-    if (sort as usize) < sizes.len() { sizes[sort as usize] } else { 0 }
+    if (sort as usize) < sizes.len() {
+        sizes[sort as usize]
+    } else {
+        0
+    }
 }
 
 // The size of a place's sort, 0 where there is no such place.
 pub fn place_size(sizes: &[u8], places: &[u8], place: u8) -> u8
     ensures { λ r. ⌜ r ≡ place-size (now (sizes .entry)) (now (places .entry)) place ⌝ }
 {
-    if (place as usize) < places.len() { size(sizes, places[place as usize]) } else { 0 }
+    if (place as usize) < places.len() {
+        size(sizes, places[place as usize])
+    } else {
+        0
+    }
 }
 
 // Whether a sort byte fits: a declared sort where it is used, else 0.
 fn fits(sizes: &[u8], used: bool, sort: u8) -> bool
     ensures { λ r. ⌜ r ≡ fitting (now (sizes .entry)) used sort ⌝ }
 {
-    if used { (sort as usize) < sizes.len() } else { sort == 0 }
+    if used {
+        (sort as usize) < sizes.len()
+    } else {
+        sort == 0
+    }
 }
 
 // The first byte that is not below `size`.
@@ -84,7 +100,12 @@ fn sort<'f>(bytes: &'f [u8], ends: usize) -> Parsed<'f>
 }
 
 // The next `count` bytes, each below `size`, and what follows them.
-fn table<'f>(bytes: &'f [u8], ends: usize, count: usize, size: u8) -> Result<(&'f [u8], &'f [u8]), FileFault>
+fn table<'f>(
+    bytes: &'f [u8],
+    ends: usize,
+    count: usize,
+    size: u8,
+) -> Result<(&'f [u8], &'f [u8]), FileFault>
     ensures value { λ r. ⌜ parts-of r ≡ table-at (now (bytes .entry)) ends count size ⌝ }
     ensures within { λ r. ⌜ made r (λ x. length (now (x .1)) ≤ length (now (bytes .entry))) ⌝ }
 {
@@ -106,8 +127,16 @@ fn table<'f>(bytes: &'f [u8], ends: usize, count: usize, size: u8) -> Result<(&'
 fn rows(sizes: &[u8], arity: u8, first: u8, second: u8) -> usize
     ensures { λ r. ⌜ r ≡ combinations (now (sizes .entry)) arity first second ⌝ }
 {
-    let a = if 0 < arity { size(sizes, first) as usize } else { 1 };
-    let b = if 1 < arity { size(sizes, second) as usize } else { 1 };
+    let a = if 0 < arity {
+        size(sizes, first) as usize
+    } else {
+        1
+    };
+    let b = if 1 < arity {
+        size(sizes, second) as usize
+    } else {
+        1
+    };
     a * b
 }
 
@@ -119,9 +148,18 @@ fn operation<'f>(sizes: &[u8], bytes: &'f [u8], ends: usize) -> Parsed<'f>
     let at = ends.saturating_sub(bytes.len());
     match bytes {
         [_, arity, ..] if *arity > 2 => Err(refused(Fault::Range, at + 1)),
-        [_, arity, first, ..] if !fits(sizes, 0 < *arity, *first) => Err(refused(Fault::Range, at + 2)),
-        [_, arity, _, second, ..] if !fits(sizes, 1 < *arity, *second) => Err(refused(Fault::Range, at + 3)),
-        [_, _, _, _, result, ..] if *result as usize >= sizes.len() => Err(refused(Fault::Range, at + 4)),
+        [_, arity, first, ..] if !fits(sizes, 0 < *arity, *first) => Err(refused(
+            Fault::Range,
+            at + 2,
+        )),
+        [_, arity, _, second, ..] if !fits(sizes, 1 < *arity, *second) => Err(refused(
+            Fault::Range,
+            at + 3,
+        )),
+        [_, _, _, _, result, ..] if *result as usize >= sizes.len() => Err(refused(
+            Fault::Range,
+            at + 4,
+        )),
         [_, arity, first, second, result, rest @ ..] => {
             let count = rows(sizes, *arity, *first, *second);
             match table(rest, ends, count, size(sizes, *result)) {
@@ -160,13 +198,23 @@ fn bag_operation<'f>(sizes: &[u8], bytes: &'f [u8], ends: usize) -> Parsed<'f>
 {
     let at = ends.saturating_sub(bytes.len());
     match bytes {
-        [_, argument, ..] if *argument as usize >= sizes.len() => Err(refused(Fault::Range, at + 1)),
+        [_, argument, ..] if *argument as usize >= sizes.len() => Err(refused(
+            Fault::Range,
+            at + 1,
+        )),
         [_, _, result, ..] if *result as usize >= sizes.len() => Err(refused(Fault::Range, at + 2)),
         [_, argument, result, rest @ ..] => {
             let count = size(sizes, *argument) as usize * size(sizes, *result) as usize;
             match counts(rest, ends, count) {
                 Ok((table, rest)) => {
-                    Ok((Command::BagOperation { argument: *argument, result: *result, table }, rest))
+                    Ok((
+                        Command::BagOperation {
+                            argument: *argument,
+                            result: *result,
+                            table,
+                        },
+                        rest,
+                    ))
                 }
                 Err(e) => Err(e),
             }
@@ -196,10 +244,20 @@ fn tokens<'f>(sizes: &[u8], places: &[u8], bytes: &'f [u8], ends: usize) -> Pars
     let at = ends.saturating_sub(bytes.len());
     match bytes {
         [_, place, ..] if *place as usize >= places.len() => Err(refused(Fault::Range, at + 1)),
-        [_, place, element, ..] if *element >= place_size(sizes, places, *place) => Err(refused(Fault::Range, at + 2)),
+        [_, place, element, ..] if *element >= place_size(sizes, places, *place) => Err(refused(
+            Fault::Range,
+            at + 2,
+        )),
         [_, place, element, high, low, rest @ ..] => {
             let count = u16::from_be_bytes([*high, *low]);
-            Ok((Command::Tokens { place: *place, element: *element, count }, rest))
+            Ok((
+                Command::Tokens {
+                    place: *place,
+                    element: *element,
+                    count,
+                },
+                rest,
+            ))
         }
         _ => Err(refused(Fault::Ends, ends)),
     }
@@ -242,13 +300,26 @@ fn transition<'f>(sizes: &[u8], bytes: &'f [u8], ends: usize) -> Parsed<'f>
         [_, count, ..] if *count > 4 => Err(refused(Fault::Range, at + 1)),
         [_, count, a, ..] if !fits(sizes, 0 < *count, *a) => Err(refused(Fault::Range, at + 2)),
         [_, count, _, b, ..] if !fits(sizes, 1 < *count, *b) => Err(refused(Fault::Range, at + 3)),
-        [_, count, _, _, c, ..] if !fits(sizes, 2 < *count, *c) => Err(refused(Fault::Range, at + 4)),
-        [_, count, _, _, _, d, ..] if !fits(sizes, 3 < *count, *d) => Err(refused(Fault::Range, at + 5)),
-        [_, count, a, b, c, d, ..] if modes(variable_sizes(sizes, *count, [*a, *b, *c, *d])) > MODES => {
+        [_, count, _, _, c, ..] if !fits(sizes, 2 < *count, *c) => Err(refused(
+            Fault::Range,
+            at + 4,
+        )),
+        [_, count, _, _, _, d, ..] if !fits(sizes, 3 < *count, *d) => Err(refused(
+            Fault::Range,
+            at + 5,
+        )),
+        [_, count, a, b, c, d, ..]
+            if modes(variable_sizes(sizes, *count, [*a, *b, *c, *d])) > MODES => {
             Err(refused(Fault::Modes, at + 5))
         }
         [_, count, a, b, c, d, rest @ ..] => {
-            Ok((Command::Transition { variables: *count, sorts: [*a, *b, *c, *d] }, rest))
+            Ok((
+                Command::Transition {
+                    variables: *count,
+                    sorts: [*a, *b, *c, *d],
+                },
+                rest,
+            ))
         }
         _ => Err(refused(Fault::Ends, ends)),
     }
@@ -270,7 +341,12 @@ fn guard<'f>(s: Signature, variables: &[u8], bytes: &'f [u8], ends: usize) -> Pa
 {
     match bytes {
         [_, term @ ..] => match check_term(s, variables, term, ends, DEPTH, 0) {
-            Ok(rest) => Ok((Command::Guard { term: before(term, rest) }, rest)),
+            Ok(rest) => Ok((
+                Command::Guard {
+                    term: before(term, rest),
+                },
+                rest,
+            )),
             Err(e) => Err(e),
         },
         _ => Err(refused(Fault::Ends, ends)),
@@ -278,7 +354,14 @@ fn guard<'f>(s: Signature, variables: &[u8], bytes: &'f [u8], ends: usize) -> Pa
 }
 
 // place, a bag over its sort
-fn arc<'f>(s: Signature, places: &[u8], direction: Direction, variables: &[u8], bytes: &'f [u8], ends: usize) -> Parsed<'f>
+fn arc<'f>(
+    s: Signature,
+    places: &[u8],
+    direction: Direction,
+    variables: &[u8],
+    bytes: &'f [u8],
+    ends: usize,
+) -> Parsed<'f>
     ensures value { λ r. ⌜ seen r ≡ arc-at (of (s .entry)) (now (places .entry)) direction (now (variables .entry)) (now (bytes .entry)) ends ⌝ }
     ensures shorter { λ r. ⌜ made r (λ x. length (now (x .1)) < length (now (bytes .entry))) ⌝ }
     ensures sorted { λ r. ⌜ made r (λ x. Few (of (s .entry)) → Arc-sorted (of (s .entry)) (now (places .entry)) (now (variables .entry)) (now (bytes .entry)) (now (x .1))) ⌝ }
@@ -289,7 +372,14 @@ fn arc<'f>(s: Signature, places: &[u8], direction: Direction, variables: &[u8], 
         [_, place, bag @ ..] => {
             let sort = places[*place as usize];
             match check_bag(s, variables, bag, ends, DEPTH, sort) {
-                Ok(rest) => Ok((Command::Arc { direction, place: *place, bag: before(bag, rest) }, rest)),
+                Ok(rest) => Ok((
+                    Command::Arc {
+                        direction,
+                        place: *place,
+                        bag: before(bag, rest),
+                    },
+                    rest,
+                )),
                 Err(e) => Err(e),
             }
         }
@@ -308,7 +398,13 @@ fn claim<'f>(bytes: &'f [u8], ends: usize) -> Parsed<'f>
         [_, kind, high, low, rest @ ..] => {
             let modulus = u16::from_be_bytes([*high, *low]);
             match Kind::from_number(*kind, modulus) {
-                Some(_) => Ok((Command::Claim { kind: *kind, modulus }, rest)),
+                Some(_) => Ok((
+                    Command::Claim {
+                        kind: *kind,
+                        modulus,
+                    },
+                    rest,
+                )),
                 None => Err(refused(Fault::Range, at + 3)),
             }
         }
@@ -329,27 +425,49 @@ fn place_weight<'f>(places: &[u8], kind: Kind, bytes: &'f [u8], ends: usize) -> 
             if !kind.is_weight(code) {
                 return Err(refused(Fault::Range, at + 5));
             }
-            Ok((Command::PlaceWeight { place: *place, code }, rest))
+            Ok((
+                Command::PlaceWeight {
+                    place: *place,
+                    code,
+                },
+                rest,
+            ))
         }
         _ => Err(refused(Fault::Ends, ends)),
     }
 }
 
 // place, element, four-byte signed code
-fn element_weight<'f>(sizes: &[u8], places: &[u8], kind: Kind, bytes: &'f [u8], ends: usize) -> Parsed<'f>
+fn element_weight<'f>(
+    sizes: &[u8],
+    places: &[u8],
+    kind: Kind,
+    bytes: &'f [u8],
+    ends: usize,
+) -> Parsed<'f>
     ensures value { λ r. ⌜ seen r ≡ element-weight-at (now (sizes .entry)) (now (places .entry)) kind (now (bytes .entry)) ends ⌝ }
     ensures shorter { λ r. ⌜ made r (λ x. length (now (x .1)) < length (now (bytes .entry))) ⌝ }
 {
     let at = ends.saturating_sub(bytes.len());
     match bytes {
         [_, place, ..] if *place as usize >= places.len() => Err(refused(Fault::Range, at + 1)),
-        [_, place, element, ..] if *element >= place_size(sizes, places, *place) => Err(refused(Fault::Range, at + 2)),
+        [_, place, element, ..] if *element >= place_size(sizes, places, *place) => Err(refused(
+            Fault::Range,
+            at + 2,
+        )),
         [_, place, element, a, b, c, d, rest @ ..] => {
             let code = i32::from_be_bytes([*a, *b, *c, *d]);
             if !kind.is_weight(code) {
                 return Err(refused(Fault::Range, at + 6));
             }
-            Ok((Command::ElementWeight { place: *place, element: *element, code }, rest))
+            Ok((
+                Command::ElementWeight {
+                    place: *place,
+                    element: *element,
+                    code,
+                },
+                rest,
+            ))
         }
         _ => Err(refused(Fault::Ends, ends)),
     }
@@ -362,7 +480,11 @@ fn end<'f>(bytes: &'f [u8], ends: usize) -> Parsed<'f>
 {
     let at = ends.saturating_sub(bytes.len());
     match bytes {
-        [_, _, ..] => Err(FileFault { fault: Fault::Trailing, place: at + 1, stage: Stage::File }),
+        [_, _, ..] => Err(FileFault {
+            fault: Fault::Trailing,
+            place: at + 1,
+            stage: Stage::File,
+        }),
         [_, rest @ ..] => Ok((Command::End, rest)),
         _ => Err(refused(Fault::Ends, ends)),
     }
@@ -379,7 +501,13 @@ pub struct Context<'a> {
 
 // The command of the given code at the front of `bytes`, with its operands, and what follows it. Weights are
 // those of the kind of the newest claim.
-pub fn parse<'f>(context: Context, kind: Kind, code: Code, bytes: &'f [u8], ends: usize) -> Parsed<'f>
+pub fn parse<'f>(
+    context: Context,
+    kind: Kind,
+    code: Code,
+    bytes: &'f [u8],
+    ends: usize,
+) -> Parsed<'f>
     ensures value { λ r. ⌜ seen r ≡ parse-at (context .entry) kind code (now (bytes .entry)) ends ⌝ }
     ensures shorter { λ r. ⌜ made r (λ x. length (now (x .1)) < length (now (bytes .entry))) ⌝ }
     ensures sorted { λ r. ⌜ made r (λ x. Few (of (context .entry .signature)) → Command-sorted (context .entry) code (now (bytes .entry)) (now (x .1))) ⌝ }

@@ -24,7 +24,9 @@ impl Order {
     pub fn new() -> Order
         ensures { λ r. ⌜ r .section ≡ Section.Sorts ⌝ }
     {
-        Order { section: Section::Sorts }
+        Order {
+            section: Section::Sorts,
+        }
     }
 
     // Moves to the section of a command, or answers false and stays.
@@ -34,7 +36,10 @@ impl Order {
     {
         match (&mut self.section, code) {
             (Section::Sorts, Code::Sort) => true,
-            (section @ (Section::Sorts | Section::Operations), Code::Operation | Code::BagOperation) => {
+            (
+                section @ (Section::Sorts | Section::Operations),
+                Code::Operation | Code::BagOperation,
+            ) => {
                 *section = Section::Operations;
                 true
             }
@@ -46,7 +51,10 @@ impl Order {
                 true
             }
             (
-                section @ (Section::Sorts | Section::Operations | Section::Places | Section::Transitions { .. }),
+                section @ (Section::Sorts
+                | Section::Operations
+                | Section::Places
+                | Section::Transitions { .. }),
                 Code::Transition,
             ) => {
                 *section = Section::Transitions { fresh: true };

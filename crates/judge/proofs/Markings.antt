@@ -56,17 +56,18 @@ module _ {V : Type 0} {d : Meaning V} (l : Laws d) (codes : List ℤ) (cells : l
       let tm : Marking = taken n t m in
       let tp : Marking = given n t m in
       let after-it : Marking = λ c. tm c - tm c + tp c in
-      let same : value after-it ≡ value tp = value-same l codes after-it tp (length codes) (λ c h. omega arith) in
-      (after-it,
-      record {
-        there = h;
-        four = ap length (f .is);
-        mode = subst (Mode (transition n t .sizes)) (sym (f .is)) (is-mode (transition n t .sizes) (f .index) (f .within));
-        guard = f .fires;
-        enough = λ c h. omega arith;
-        new = λ c h. refl;
-      },
-      λ r. f .apart (rw (f .before-is, f .after-is) (subst (d .rel (value tm)) same r)))
+      let same : value after-it ≡ value tp = value-same l codes after-it tp (length codes) (λ c h. omega arith) in (
+        after-it,
+        record {
+          there = h;
+          four = ap length (f .is);
+          mode = subst (Mode (transition n t .sizes)) (sym (f .is)) (is-mode (transition n t .sizes) (f .index) (f .within));
+          guard = f .fires;
+          enough = λ c h. omega arith;
+          new = λ c h. refl;
+        },
+        λ r. f .apart (rw (f .before-is, f .after-is) (subst (d .rel (value tm)) same r)),
+      )
 
   pub right : (r : Verdict V) → Judged d codes n r → Right d codes n r
   right (Accepted c) j = λ b. b .3 .2 (fires-kept (b .0) (b .1) (b .2) (b .3 .0) (j .1) (b .3 .1))

@@ -45,10 +45,11 @@ numbered ns (a ∷ b ∷ c ∷ d ∷ []) l h =
     let p = getD ns 0 0 in
     let q = getD ns 1 0 in
     let r = getD ns 2 0 in
-    let s = getD ns 3 0 in
-    (i p q r s a b c d (h .first) (h .second) (h .third) (h .fourth),
-    subst (λ (x : ℕ). i p q r s a b c d (h .first) (h .second) (h .third) (h .fourth) < x) (regroup p q r s) (below p q r s a b c d (h .first) (h .second) (h .third) (h .fourth)),
-    counted p q r s a b c d (h .first) (h .second) (h .third) (h .fourth))
+    let s = getD ns 3 0 in (
+      i p q r s a b c d (h .first) (h .second) (h .third) (h .fourth),
+      subst (λ (x : ℕ). i p q r s a b c d (h .first) (h .second) (h .third) (h .fourth) < x) (regroup p q r s) (below p q r s a b c d (h .first) (h .second) (h .third) (h .fourth)),
+      counted p q r s a b c d (h .first) (h .second) (h .third) (h .fourth),
+    )
 numbered ns (a ∷ b ∷ c ∷ d ∷ e ∷ es) l h = let z : ⊥ = omega arith in absurd z
 
 some : (p q i : ℕ) → i < p * q → (0 < p) × (0 < q)

@@ -63,6 +63,11 @@ pub fn cap<M: Measuring>(
             let w = m.weight(codes[cell]);
             Ok(m.largest(&v, &w))
         }
-        Verdict::Broken { transition: _, mode: _, before: _, after: _ } => Err(Fault::NotAccepted),
+        Verdict::Broken {
+            transition: _,
+            mode: _,
+            before: _,
+            after: _,
+        } => Err(Fault::NotAccepted),
     }
 }

@@ -37,7 +37,14 @@ pub fn judge_by_kind(
     match kind {
         Kind::Equal => Ok(judge(net, claim, &Equal, codes, before, after)?.outcome()),
         Kind::NeverRises => Ok(judge(net, claim, &NeverRises, codes, before, after)?.outcome()),
-        Kind::NeverFalls => Ok(judge(net, claim, &Turned(NeverRises), codes, before, after)?.outcome()),
+        Kind::NeverFalls => Ok(judge(
+            net,
+            claim,
+            &Turned(NeverRises),
+            codes,
+            before,
+            after,
+        )?.outcome()),
         Kind::Modulo(k) => Ok(judge(net, claim, &k, codes, before, after)?.outcome()),
         Kind::Trap => Ok(judge(net, claim, &Turned(Siphon), codes, before, after)?.outcome()),
         Kind::Siphon => Ok(judge(net, claim, &Siphon, codes, before, after)?.outcome()),

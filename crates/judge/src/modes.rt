@@ -18,7 +18,12 @@ fn judge_modes<D: WeightDomain>(net: &Net, t: usize, d: &D, codes: &[i32]) -> Ve
         if net.guard(t, mode) {
             let (v, w) = net.sums(t, mode, d, codes);
             if !d.relates(&v, &w) {
-                return Verdict::Broken { transition: t, mode, before: v, after: w };
+                return Verdict::Broken {
+                    transition: t,
+                    mode,
+                    before: v,
+                    after: w,
+                };
             }
             seen = seen.saturating_add(1);
         }
@@ -34,8 +39,18 @@ fn judge_all<D: WeightDomain>(net: &Net, d: &D, codes: &[i32]) -> Verdict<D::Val
     for t in 0..net.transitions() {
         match judge_modes(net, t, d, codes) {
             Verdict::Accepted { modes } => seen = seen.saturating_add(modes),
-            Verdict::Broken { transition, mode, before, after } => {
-                return Verdict::Broken { transition, mode, before, after };
+            Verdict::Broken {
+                transition,
+                mode,
+                before,
+                after,
+            } => {
+                return Verdict::Broken {
+                    transition,
+                    mode,
+                    before,
+                    after,
+                };
             }
         }
     }
@@ -78,12 +93,22 @@ pub(crate) fn judge_codes<D: WeightDomain>(
             after.fill(0);
             Verdict::Accepted { modes }
         }
-        Verdict::Broken { transition, mode, before: v, after: w } => {
+        Verdict::Broken {
+            transition,
+            mode,
+            before: v,
+            after: w,
+        } => {
             before.fill(0);
             after.fill(0);
             net.count(transition, mode, Direction::In, before);
             net.count(transition, mode, Direction::Out, after);
-            Verdict::Broken { transition, mode, before: v, after: w }
+            Verdict::Broken {
+                transition,
+                mode,
+                before: v,
+                after: w,
+            }
         }
     }
 }

@@ -2,8 +2,15 @@
 // that is not, with the values before and after.
 #[derive(Drop)]
 pub enum Verdict<V> {
-    Accepted { modes: u32 },
-    Broken { transition: usize, mode: [u8; 4], before: V, after: V },
+    Accepted {
+        modes: u32,
+    },
+    Broken {
+        transition: usize,
+        mode: [u8; 4],
+        before: V,
+        after: V,
+    },
 }
 
 // The same by kind, without the values.
@@ -18,7 +25,12 @@ impl<V: Drop> Verdict<V> {
     pub fn outcome(self) -> Outcome {
         match self {
             Verdict::Accepted { modes } => Outcome::Accepted { modes },
-            Verdict::Broken { transition, mode, before: _, after: _ } => Outcome::Broken { transition, mode },
+            Verdict::Broken {
+                transition,
+                mode,
+                before: _,
+                after: _,
+            } => Outcome::Broken { transition, mode },
         }
     }
 }

@@ -76,9 +76,17 @@ impl<'f> Reader<'f> {
 // Carries out every command of a file.
 fn fill(net: &mut Net, file: &[u8]) -> Result<(), ReadError> {
     if file.len() > LONGEST {
-        return Err(ReadError::File(FileFault { fault: Fault::TooLong, place: LONGEST, stage: Stage::File }));
+        return Err(ReadError::File(FileFault {
+            fault: Fault::TooLong,
+            place: LONGEST,
+            stage: Stage::File,
+        }));
     }
-    let mut reader = Reader { order: Order::new(), rest: file, ends: file.len() };
+    let mut reader = Reader {
+        order: Order::new(),
+        rest: file,
+        ends: file.len(),
+    };
     'commands: loop {
         if !reader.step(net)? {
             return Ok(());

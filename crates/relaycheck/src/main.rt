@@ -49,7 +49,10 @@ fn add_claims(net: &Net, text: &mut String) -> fmt::Result {
 // What the replay did, and the cells that hold tokens after it.
 fn add_trace(heap: Global, net: &Net, bytes: &[u8], text: &mut String) -> Result<(), AnyError> {
     let mut counts = [0u16; CELLS];
-    let mut memory = vec![in heap; Firing { transition: 0, mode: [0; 4] }; TRAIL]?;
+    let mut memory = vec![in heap; Firing {
+        transition: 0,
+        mode: [0; 4]
+    }; TRAIL]?;
     let mut trail = LentList::new(memory.as_mut_slice());
     if let Ok(done) = replay(net, &mut counts, &mut trail, bytes) {
         add_replay(text, done)?;

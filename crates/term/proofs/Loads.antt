@@ -35,8 +35,8 @@ module _ (s : Sig) where
       choose P (begins 0x20 1 bs) _ _ (λ e. omega arith) (λ e1.
       choose P (begins 0x21 2 bs) _ _ (λ e. omega arith) (λ e2.
       choose P (begins 0x22 1 bs) _ _
-        (λ e. choose P (eqb (operation s (getD bs 1 0) .arity) 0) _ _ (λ f. omega arith) (λ f1.
-          choose P (eqb (operation s (getD bs 1 0) .arity) 1) _ _ (λ f. after (drop 2 bs) (omega arith)) (λ f2. twice (drop 2 bs) (omega arith)))) (λ e3.
+      (λ e. choose P (eqb (operation s (getD bs 1 0) .arity) 0) _ _ (λ f. omega arith) (λ f1.
+      choose P (eqb (operation s (getD bs 1 0) .arity) 1) _ _ (λ f. after (drop 2 bs) (omega arith)) (λ f2. twice (drop 2 bs) (omega arith)))) (λ e3.
       choose P (begins 0x23 1 bs) _ _ (λ e. twice (drop 2 bs) (omega arith)) (λ e4.
       choose P (begins 0x24 0 bs) _ _ (λ e. after (drop 1 bs) (omega arith)) (λ e5.
       choose P (begins 0x25 0 bs) _ _ (λ e. twice (drop 1 bs) (omega arith)) (λ e6. omega arith))))))

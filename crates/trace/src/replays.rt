@@ -62,9 +62,18 @@ fn step<'f>(
             Ok(Some(rest))
         }
         [0x4F] => Ok(None),
-        [0x4F, _, ..] => Err(Stop { fault: Fault::Trailing, place: at + 1 }),
-        [] | [0x40, ..] => Err(Stop { fault: Fault::Ends, place: ends }),
-        [_, ..] => Err(Stop { fault: Fault::NoCommand, place: at }),
+        [0x4F, _, ..] => Err(Stop {
+            fault: Fault::Trailing,
+            place: at + 1,
+        }),
+        [] | [0x40, ..] => Err(Stop {
+            fault: Fault::Ends,
+            place: ends,
+        }),
+        [_, ..] => Err(Stop {
+            fault: Fault::NoCommand,
+            place: at,
+        }),
     }
 }
 
@@ -78,19 +87,36 @@ fn run(net: &Net, counts: &mut Counts, trail: &mut LentList<Firing>, bytes: &[u8
                 rest = next;
                 carried = carried.saturating_add(1);
             }
-            Ok(None) => return Replayed { carried, stop: None },
-            Err(stop) => return Replayed { carried, stop: Some(stop) },
+            Ok(None) => return Replayed {
+                carried,
+                stop: None,
+            },
+            Err(stop) => return Replayed {
+                carried,
+                stop: Some(stop),
+            },
         }
     }
 }
 
 // Replays a trace on a new bench in lent memory.
-pub fn replay(net: &Net, cells: &mut [u16], trail: &mut LentList<Firing>, bytes: &[u8]) -> Result<Replayed, Fault> {
+pub fn replay(
+    net: &Net,
+    cells: &mut [u16],
+    trail: &mut LentList<Firing>,
+    bytes: &[u8],
+) -> Result<Replayed, Fault> {
     measure(cells)?;
     let mut counts = Counts::over(cells);
     begin_on(net, &mut counts, trail);
     if bytes.len() > LONGEST {
-        return Ok(Replayed { carried: 0, stop: Some(Stop { fault: Fault::TooLong, place: LONGEST }) });
+        return Ok(Replayed {
+            carried: 0,
+            stop: Some(Stop {
+                fault: Fault::TooLong,
+                place: LONGEST,
+            }),
+        });
     }
     Ok(run(net, &mut counts, trail, bytes))
 }

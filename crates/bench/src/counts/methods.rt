@@ -14,7 +14,11 @@ use term::Fault;
 pub fn measure(cells: &[u16]) -> Result<(), Fault>
     ensures { λ r. ⌜ elim r [ Ok _ ↦ length (now (cells .entry)) ≡ 1024 | Err e ↦ (length (now (cells .entry)) ≡ 1024 → ⊥) × (e ≡ Memory) ] ⌝ }
 {
-    if cells.len() == CELLS { Ok(()) } else { Err(Fault::Memory) }
+    if cells.len() == CELLS {
+        Ok(())
+    } else {
+        Err(Fault::Memory)
+    }
 }
 
 impl<'c> Counts<'c> {

@@ -24,14 +24,22 @@ use term::weigh_bag;
 fn tail(bytes: &[u8], from: usize) -> &[u8]
     ensures { λ r. ⌜ now r ≡ drop from (now (bytes .entry)) ⌝ }
 {
-    if from <= bytes.len() { &bytes[from..] } else { &[] }
+    if from <= bytes.len() {
+        &bytes[from..]
+    } else {
+        &[]
+    }
 }
 
 // The next `n` bytes.
 fn front(bytes: &[u8], n: usize) -> &[u8]
     ensures { λ r. ⌜ now r ≡ take n (now (bytes .entry)) ⌝ }
 {
-    if n <= bytes.len() { &bytes[0..n] } else { bytes }
+    if n <= bytes.len() {
+        &bytes[0..n]
+    } else {
+        bytes
+    }
 }
 
 fn same(a: Direction, b: Direction) -> bool
@@ -107,7 +115,12 @@ impl Net {
     // Whether the net has this cell: a place of it, and an element of that place's sort.
     pub fn has_cell(&self, cell: usize) -> bool {
         cell < CELLS
-            && ((cell % 64) as u8) < place_size(self.sizes.as_slice(), self.places.as_slice(), (cell / 64) as u8)
+            && ((cell % 64) as u8)
+                < place_size(
+                    self.sizes.as_slice(),
+                    self.places.as_slice(),
+                    (cell / 64) as u8,
+                )
     }
 
     // The initial marking.
@@ -121,14 +134,22 @@ impl Net {
     pub fn modes(&self, t: usize) -> u32
         ensures { λ r. ⌜ r ≡ mode-count (transition (now (self .entry)) t .sizes) ⌝ }
     {
-        if t < self.transitions.len() { modes(self.transitions[t].sizes) } else { 0 }
+        if t < self.transitions.len() {
+            modes(self.transitions[t].sizes)
+        } else {
+            0
+        }
     }
 
     // The mode number `i` of a transition, the last variable fastest.
     pub fn mode(&self, t: usize, i: u32) -> [u8; 4]
         ensures { λ r. ⌜ r ≡ mode-of (transition (now (self .entry)) t .sizes) i ⌝ }
     {
-        if t < self.transitions.len() { mode_at(self.transitions[t].sizes, i) } else { [0; 4] }
+        if t < self.transitions.len() {
+            mode_at(self.transitions[t].sizes, i)
+        } else {
+            [0; 4]
+        }
     }
 
     // Whether each number of a mode is an element of its variable's sort, and 0 where there is no variable.
@@ -149,7 +170,12 @@ impl Net {
         if !how.guarded {
             return true;
         }
-        let (v, _) = value(self.signature(), &mode, tail(self.terms.as_slice(), how.guard), DEPTH);
+        let (v, _) = value(
+            self.signature(),
+            &mode,
+            tail(self.terms.as_slice(), how.guard),
+            DEPTH,
+        );
         v == 1
     }
 
@@ -164,7 +190,11 @@ impl Net {
         let from = how.from;
         let to = how.to;
         let arcs = self.arcs.as_slice();
-        if from <= to && to <= arcs.len() { &arcs[from..to] } else { &[] }
+        if from <= to && to <= arcs.len() {
+            &arcs[from..to]
+        } else {
+            &[]
+        }
     }
 
     // The bytes of an arc's bag.
@@ -187,14 +217,30 @@ impl Net {
     }
 
     // The value of what a transition takes or puts in a mode.
-    fn weigh<D: WeightDomain>(&self, t: usize, mode: [u8; 4], direction: Direction, d: &D, codes: &[i32]) -> D::Value
+    fn weigh<D: WeightDomain>(
+        &self,
+        t: usize,
+        mode: [u8; 4],
+        direction: Direction,
+        d: &D,
+        codes: &[i32],
+    ) -> D::Value
         ensures { λ r. ⌜ Weighs (meaning (now (d .entry))) (now (codes .entry)) (meaning (now (d .entry)) .nil) (side (now (self .entry)) mode direction (arcs-of (now (self .entry)) t)) (load (now (self .entry)) direction (arcs-of (now (self .entry)) t)) r ⌝ }
     {
         let s = self.signature();
         let mut sum = d.zero();
         for arc in self.arcs_of(t) {
             if same(arc.direction, direction) {
-                let (more, _) = weigh_bag(s, &mode, self.bag_bytes(*arc), DEPTH, d, codes, arc.place, sum);
+                let (more, _) = weigh_bag(
+                    s,
+                    &mode,
+                    self.bag_bytes(*arc),
+                    DEPTH,
+                    d,
+                    codes,
+                    arc.place,
+                    sum,
+                );
                 sum = more;
             }
         }
@@ -202,10 +248,19 @@ impl Net {
     }
 
     // The values before and after: of what a transition takes in a mode, and of what it puts.
-    pub fn sums<D: WeightDomain>(&self, t: usize, mode: [u8; 4], d: &D, codes: &[i32]) -> (D::Value, D::Value)
+    pub fn sums<D: WeightDomain>(
+        &self,
+        t: usize,
+        mode: [u8; 4],
+        d: &D,
+        codes: &[i32],
+    ) -> (D::Value, D::Value)
         ensures before { λ r. ⌜ r .0 ≡ value-of (meaning (now (d .entry))) (now (codes .entry)) (taken (now (self .entry)) t mode) ⌝ }
         ensures after { λ r. ⌜ r .1 ≡ value-of (meaning (now (d .entry))) (now (codes .entry)) (given (now (self .entry)) t mode) ⌝ }
     {
-        (self.weigh(t, mode, Direction::In, d, codes), self.weigh(t, mode, Direction::Out, d, codes))
+        (
+            self.weigh(t, mode, Direction::In, d, codes),
+            self.weigh(t, mode, Direction::Out, d, codes),
+        )
     }
 }

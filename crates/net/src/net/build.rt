@@ -65,7 +65,8 @@ impl Net {
             Code::Transition => self.transitions.len() >= 32,
             Code::InArc | Code::OutArc => self.arcs.len() >= 128,
             Code::Claim => self.claims.len() >= 16,
-            Code::Tokens | Code::Guard | Code::PlaceWeight | Code::ElementWeight | Code::End => false,
+            Code::Tokens | Code::Guard | Code::PlaceWeight | Code::ElementWeight | Code::End =>
+                false,
         }
     }
 
@@ -82,7 +83,11 @@ impl Net {
 
     // What the operands of the next command refer to.
     pub(crate) fn context(&self) -> Context<'_> {
-        Context { signature: self.signature(), places: self.places.as_slice(), variables: self.variables() }
+        Context {
+            signature: self.signature(),
+            places: self.places.as_slice(),
+            variables: self.variables(),
+        }
     }
 
     // The sorts of the newest transition's variables.
@@ -104,32 +109,57 @@ impl Net {
         }
     }
 
-    fn add_operation(&mut self, arity: u8, first: u8, second: u8, result: u8, table: &[u8]) -> Result<(), AllocError> {
+    fn add_operation(
+        &mut self,
+        arity: u8,
+        first: u8,
+        second: u8,
+        result: u8,
+        table: &[u8],
+    ) -> Result<(), AllocError> {
         let from = (self.tables.len() & 0xffff_ffff) as u32;
         self.tables.extend_from_slice(table)?;
-        self.operations.push(Operation { arity, first, second, result, table: from })?;
+        self.operations
+            .push(Operation {
+                arity,
+                first,
+                second,
+                result,
+                table: from,
+            })?;
         Ok(())
     }
 
-    fn add_bag_operation(&mut self, argument: u8, result: u8, table: &[u8]) -> Result<(), AllocError> {
+    fn add_bag_operation(
+        &mut self,
+        argument: u8,
+        result: u8,
+        table: &[u8],
+    ) -> Result<(), AllocError> {
         let from = (self.tables.len() & 0xffff_ffff) as u32;
         self.tables.extend_from_slice(table)?;
-        self.bags.push(BagOperation { argument, result, table: from })?;
+        self.bags
+            .push(BagOperation {
+                argument,
+                result,
+                table: from,
+            })?;
         Ok(())
     }
 
     fn add_transition(&mut self, variables: u8, sorts: [u8; 4]) -> Result<(), AllocError> {
         let sizes = variable_sizes(self.sizes.as_slice(), variables, sorts);
         let arcs = self.arcs.len();
-        self.transitions.push(Transition {
-            variables,
-            sorts,
-            sizes,
-            guarded: false,
-            guard: 0,
-            from: arcs,
-            to: arcs,
-        })?;
+        self.transitions
+            .push(Transition {
+                variables,
+                sorts,
+                sizes,
+                guarded: false,
+                guard: 0,
+                from: arcs,
+                to: arcs,
+            })?;
         Ok(())
     }
 
@@ -152,7 +182,13 @@ impl Net {
             return Err(AllocError);
         }
         self.terms.extend_from_slice(bag)?;
-        self.arcs.push(Arc { direction, place, from, bytes: bag.len() })?;
+        self.arcs
+            .push(Arc {
+                direction,
+                place,
+                from,
+                bytes: bag.len(),
+            })?;
         let arcs = self.arcs.len();
         if let Some(t) = self.transitions.last_mut() {
             t.to = arcs;
@@ -195,20 +231,38 @@ impl Net {
     pub(crate) fn carry_out(&mut self, command: Command) -> Result<(), AllocError> {
         match command {
             Command::Sort { size } => self.sizes.push(size)?,
-            Command::Operation { arity, first, second, result, table } => {
-                self.add_operation(arity, first, second, result, table)?
-            }
-            Command::BagOperation { argument, result, table } => {
-                self.add_bag_operation(argument, result, table)?
-            }
+            Command::Operation {
+                arity,
+                first,
+                second,
+                result,
+                table,
+            } => { self.add_operation(arity, first, second, result, table)? }
+            Command::BagOperation {
+                argument,
+                result,
+                table,
+            } => { self.add_bag_operation(argument, result, table)? }
             Command::Place { sort } => self.places.push(sort)?,
-            Command::Tokens { place, element, count } => self.set_tokens(place, element, count),
+            Command::Tokens {
+                place,
+                element,
+                count,
+            } => self.set_tokens(place, element, count),
             Command::Transition { variables, sorts } => self.add_transition(variables, sorts)?,
             Command::Guard { term } => self.add_guard(term)?,
-            Command::Arc { direction, place, bag } => self.add_arc(direction, place, bag)?,
+            Command::Arc {
+                direction,
+                place,
+                bag,
+            } => self.add_arc(direction, place, bag)?,
             Command::Claim { kind, modulus } => self.add_claim(kind, modulus)?,
             Command::PlaceWeight { place, code } => self.set_codes(place, code),
-            Command::ElementWeight { place, element, code } => self.set_code(place, element, code),
+            Command::ElementWeight {
+                place,
+                element,
+                code,
+            } => self.set_code(place, element, code),
             Command::End => {}
         }
         Ok(())

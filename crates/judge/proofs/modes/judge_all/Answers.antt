@@ -16,9 +16,11 @@ returns-in-Broken g c =
     let codes = c .args .codes .now in
     let n = c .args .net .now in
     let told = c .in-Broken .ensures tt in
-    let e = told .0 in
-    (omega (arith, e, c .transitions-t-end .ensures), subst (Kept-all d codes n) (sym e) (c .loop-t .inv .1),
-    subst (λ (k : ℕ). First d codes n k (c .in-Broken .mode) (c .in-Broken .before) (c .in-Broken .after)) (sym e) (told .1))
+    let e = told .0 in (
+      omega (arith, e, c .transitions-t-end .ensures),
+      subst (Kept-all d codes n) (sym e) (c .loop-t .inv .1),
+      subst (λ (k : ℕ). First d codes n k (c .in-Broken .mode) (c .in-Broken .before) (c .in-Broken .after)) (sym e) (told .1),
+    )
 
 pub loop-t-again : need.loop-t-again
 loop-t-again g c = over-more (g .D·WeightDomain .meaning (c .args .d .now)) (c .args .codes .now) (c .args .net .now) (c .loop-t .t) (c .loop-t .seen) (c .in-Accepted .modes) _ (c .saturating-add-seen .ensures) (c .loop-t .inv) (c .in-Accepted .ensures tt)
