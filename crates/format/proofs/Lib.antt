@@ -1,4 +1,5 @@
 pub mod Claims
 pub mod Handed
+pub mod Local
 pub mod Tables
 pub mod Terms

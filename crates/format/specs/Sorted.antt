@@ -1,33 +1,37 @@
--- What a guard or an arc that was read says of its term or bag.
-use mathlib.Core.List.{List}
+-- The sorts of the terms and bags of commands.
+use mathlib.Core.List.{List, []}
 use Prim.Native.Nat.{ℕ}
-use lib.ListN.{drop, getD}
+use lib.ListN.{getD}
 use Rattle.term.specs.Shape.{Passed, Passed-bag}
-use Rattle.term.specs.Meaning.{Sig, of}
-use Rattle.format.specs.declared.command.Code.{Code}
-use Rattle.format.specs.declared.command.Code.the-variants as code
-use Rattle.format.specs.declared.operands.Context.{Context}
+use Rattle.term.specs.Meaning.{Sig}
+use Rattle.format.specs.Commands.{Said, sort, operation, bag-operation, place, tokens, transition, guard, arc, claim, place-weight, element-weight, end}
 
--- after the guard's code byte stands a term of sort 0, and r follows it
-abbrev pub Guard-sorted : Sig → List ℕ → List ℕ → List ℕ → Type 0
-Guard-sorted s vars bs r = Passed s vars 16 0 (drop 1 bs) r
+-- a command without a term or a bag
+abbrev pub Plain : Said → Type 0
+Plain (sort n) = Unit {0}
+Plain (operation n a b r t) = Unit {0}
+Plain (bag-operation a r t) = Unit {0}
+Plain (place s) = Unit {0}
+Plain (tokens p e n) = Unit {0}
+Plain (transition n s) = Unit {0}
+Plain (guard t) = ⊥
+Plain (arc d p t) = ⊥
+Plain (claim k m) = Unit {0}
+Plain (place-weight p c) = Unit {0}
+Plain (element-weight p e c) = Unit {0}
+Plain end = Unit {0}
 
--- after the arc's code and place stands a bag over the sort of the place, and r follows it
-abbrev pub Arc-sorted : Sig → List ℕ → List ℕ → List ℕ → List ℕ → Type 0
-Arc-sorted s places vars bs r = Passed-bag s vars 16 (getD places (getD bs 1 0) 0) (drop 2 bs) r
-
--- the same of the command of any code; those without a term say nothing
-abbrev pub Command-sorted : Context → Code → List ℕ → List ℕ → Type 0
-Command-sorted x code.Sort bs r = Unit {0}
-Command-sorted x code.Operation bs r = Unit {0}
-Command-sorted x code.BagOperation bs r = Unit {0}
-Command-sorted x code.Place bs r = Unit {0}
-Command-sorted x code.Tokens bs r = Unit {0}
-Command-sorted x code.Transition bs r = Unit {0}
-Command-sorted x code.Guard bs r = Guard-sorted (of (x .signature)) (x .variables .now) bs r
-Command-sorted x code.InArc bs r = Arc-sorted (of (x .signature)) (x .places .now) (x .variables .now) bs r
-Command-sorted x code.OutArc bs r = Arc-sorted (of (x .signature)) (x .places .now) (x .variables .now) bs r
-Command-sorted x code.Claim bs r = Unit {0}
-Command-sorted x code.PlaceWeight bs r = Unit {0}
-Command-sorted x code.ElementWeight bs r = Unit {0}
-Command-sorted x code.End bs r = Unit {0}
+-- a guard's bytes are one term of sort 0, an arc's are one bag over the sort of its place, and nothing follows in them
+abbrev pub Said-sorted : Sig → List ℕ → List ℕ → Said → Type 0
+Said-sorted s places vars (sort n) = Unit {0}
+Said-sorted s places vars (operation n a b r t) = Unit {0}
+Said-sorted s places vars (bag-operation a r t) = Unit {0}
+Said-sorted s places vars (place p) = Unit {0}
+Said-sorted s places vars (tokens p e n) = Unit {0}
+Said-sorted s places vars (transition n v) = Unit {0}
+Said-sorted s places vars (guard t) = Passed s vars 16 0 t []
+Said-sorted s places vars (arc d p t) = Passed-bag s vars 16 (getD places p 0) t []
+Said-sorted s places vars (claim k m) = Unit {0}
+Said-sorted s places vars (place-weight p c) = Unit {0}
+Said-sorted s places vars (element-weight p e c) = Unit {0}
+Said-sorted s places vars end = Unit {0}

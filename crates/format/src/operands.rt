@@ -1,15 +1,16 @@
 // The operands of each command, taken apart by slice patterns. Each is checked at its own byte.
 // `ends` is the length of the file, so what is left of it begins at `ends` less its length.
+ghost use mathlib.Core.List.{List};
 ghost use mathlib.Core.Path.{_≡_};
-ghost use Prim.Native.Nat.{_<_, _≤_};
+ghost use Prim.Native.Nat.{ℕ, _<_, _≤_};
 ghost use lib.ListN.{length};
 ghost use Rattle.std.specs.Options.{Cases as BySome};
 ghost use Rattle.std.specs.Vec.{made};
 ghost use Rattle.term.specs.Meaning.{of};
 ghost use Rattle.term.specs.Shape.{Few};
-ghost use Rattle.format.specs.Commands.{seen};
+ghost use Rattle.format.specs.Commands.{saidOf, seen};
 ghost use Rattle.format.specs.Format.{arc-at, bag-operation-at, claim-at, combinations, counts-at, element-weight-at, end-at, first-bad, fitting, front-of, guard-at, in-command, mode-count, operation-at, parse-at, parts-of, place-at, place-size, place-weight-at, size-of, sort-at, table-at, tokens-at, transition-at, variable-size, variable-sizes};
-ghost use Rattle.format.specs.Sorted.{Arc-sorted, Command-sorted, Guard-sorted};
+ghost use Rattle.format.specs.Sorted.{Plain, Said-sorted};
 use crate::command::Code;
 use crate::command::Command;
 use crate::command::Direction;
@@ -90,6 +91,7 @@ fn first_bad(bytes: &[u8], size: u8) -> Option<usize>
 fn sort<'f>(bytes: &'f [u8], ends: usize) -> Parsed<'f>
     ensures value { λ r. ⌜ seen r ≡ sort-at (now (bytes .entry)) ends ⌝ }
     ensures shorter { λ r. ⌜ made r (λ x. length (now (x .1)) < length (now (bytes .entry))) ⌝ }
+    ensures plain { λ r. ⌜ made r (λ x. Plain (saidOf (x .0))) ⌝ }
 {
     let at = ends.saturating_sub(bytes.len());
     match bytes {
@@ -144,6 +146,7 @@ fn rows(sizes: &[u8], arity: u8, first: u8, second: u8) -> usize
 fn operation<'f>(sizes: &[u8], bytes: &'f [u8], ends: usize) -> Parsed<'f>
     ensures value { λ r. ⌜ seen r ≡ operation-at (now (sizes .entry)) (now (bytes .entry)) ends ⌝ }
     ensures shorter { λ r. ⌜ made r (λ x. length (now (x .1)) < length (now (bytes .entry))) ⌝ }
+    ensures plain { λ r. ⌜ made r (λ x. Plain (saidOf (x .0))) ⌝ }
 {
     let at = ends.saturating_sub(bytes.len());
     match bytes {
@@ -195,6 +198,7 @@ fn counts<'f>(bytes: &'f [u8], ends: usize, count: usize) -> Result<(&'f [u8], &
 fn bag_operation<'f>(sizes: &[u8], bytes: &'f [u8], ends: usize) -> Parsed<'f>
     ensures value { λ r. ⌜ seen r ≡ bag-operation-at (now (sizes .entry)) (now (bytes .entry)) ends ⌝ }
     ensures shorter { λ r. ⌜ made r (λ x. length (now (x .1)) < length (now (bytes .entry))) ⌝ }
+    ensures plain { λ r. ⌜ made r (λ x. Plain (saidOf (x .0))) ⌝ }
 {
     let at = ends.saturating_sub(bytes.len());
     match bytes {
@@ -227,6 +231,7 @@ fn bag_operation<'f>(sizes: &[u8], bytes: &'f [u8], ends: usize) -> Parsed<'f>
 fn place<'f>(sizes: &[u8], bytes: &'f [u8], ends: usize) -> Parsed<'f>
     ensures value { λ r. ⌜ seen r ≡ place-at (now (sizes .entry)) (now (bytes .entry)) ends ⌝ }
     ensures shorter { λ r. ⌜ made r (λ x. length (now (x .1)) < length (now (bytes .entry))) ⌝ }
+    ensures plain { λ r. ⌜ made r (λ x. Plain (saidOf (x .0))) ⌝ }
 {
     let at = ends.saturating_sub(bytes.len());
     match bytes {
@@ -240,6 +245,7 @@ fn place<'f>(sizes: &[u8], bytes: &'f [u8], ends: usize) -> Parsed<'f>
 fn tokens<'f>(sizes: &[u8], places: &[u8], bytes: &'f [u8], ends: usize) -> Parsed<'f>
     ensures value { λ r. ⌜ seen r ≡ tokens-at (now (sizes .entry)) (now (places .entry)) (now (bytes .entry)) ends ⌝ }
     ensures shorter { λ r. ⌜ made r (λ x. length (now (x .1)) < length (now (bytes .entry))) ⌝ }
+    ensures plain { λ r. ⌜ made r (λ x. Plain (saidOf (x .0))) ⌝ }
 {
     let at = ends.saturating_sub(bytes.len());
     match bytes {
@@ -294,6 +300,7 @@ pub fn modes(sizes: [u8; 4]) -> u32
 fn transition<'f>(sizes: &[u8], bytes: &'f [u8], ends: usize) -> Parsed<'f>
     ensures value { λ r. ⌜ seen r ≡ transition-at (now (sizes .entry)) (now (bytes .entry)) ends ⌝ }
     ensures shorter { λ r. ⌜ made r (λ x. length (now (x .1)) < length (now (bytes .entry))) ⌝ }
+    ensures plain { λ r. ⌜ made r (λ x. Plain (saidOf (x .0))) ⌝ }
 {
     let at = ends.saturating_sub(bytes.len());
     match bytes {
@@ -337,7 +344,7 @@ fn before<'f>(bytes: &'f [u8], rest: &[u8]) -> &'f [u8]
 fn guard<'f>(s: Signature, variables: &[u8], bytes: &'f [u8], ends: usize) -> Parsed<'f>
     ensures value { λ r. ⌜ seen r ≡ guard-at (of (s .entry)) (now (variables .entry)) (now (bytes .entry)) ends ⌝ }
     ensures shorter { λ r. ⌜ made r (λ x. length (now (x .1)) < length (now (bytes .entry))) ⌝ }
-    ensures sorted { λ r. ⌜ made r (λ x. Few (of (s .entry)) → Guard-sorted (of (s .entry)) (now (variables .entry)) (now (bytes .entry)) (now (x .1))) ⌝ }
+    ensures sorted { λ r. ⌜ made r (λ x. Few (of (s .entry)) → (p : List ℕ) → Said-sorted (of (s .entry)) p (now (variables .entry)) (saidOf (x .0))) ⌝ }
 {
     match bytes {
         [_, term @ ..] => match check_term(s, variables, term, ends, DEPTH, 0) {
@@ -364,7 +371,7 @@ fn arc<'f>(
 ) -> Parsed<'f>
     ensures value { λ r. ⌜ seen r ≡ arc-at (of (s .entry)) (now (places .entry)) direction (now (variables .entry)) (now (bytes .entry)) ends ⌝ }
     ensures shorter { λ r. ⌜ made r (λ x. length (now (x .1)) < length (now (bytes .entry))) ⌝ }
-    ensures sorted { λ r. ⌜ made r (λ x. Few (of (s .entry)) → Arc-sorted (of (s .entry)) (now (places .entry)) (now (variables .entry)) (now (bytes .entry)) (now (x .1))) ⌝ }
+    ensures sorted { λ r. ⌜ made r (λ x. Few (of (s .entry)) → Said-sorted (of (s .entry)) (now (places .entry)) (now (variables .entry)) (saidOf (x .0))) ⌝ }
 {
     let at = ends.saturating_sub(bytes.len());
     match bytes {
@@ -391,6 +398,7 @@ fn arc<'f>(
 fn claim<'f>(bytes: &'f [u8], ends: usize) -> Parsed<'f>
     ensures value { λ r. ⌜ seen r ≡ claim-at (now (bytes .entry)) ends ⌝ }
     ensures shorter { λ r. ⌜ made r (λ x. length (now (x .1)) < length (now (bytes .entry))) ⌝ }
+    ensures plain { λ r. ⌜ made r (λ x. Plain (saidOf (x .0))) ⌝ }
 {
     let at = ends.saturating_sub(bytes.len());
     match bytes {
@@ -416,6 +424,7 @@ fn claim<'f>(bytes: &'f [u8], ends: usize) -> Parsed<'f>
 fn place_weight<'f>(places: &[u8], kind: Kind, bytes: &'f [u8], ends: usize) -> Parsed<'f>
     ensures value { λ r. ⌜ seen r ≡ place-weight-at (now (places .entry)) kind (now (bytes .entry)) ends ⌝ }
     ensures shorter { λ r. ⌜ made r (λ x. length (now (x .1)) < length (now (bytes .entry))) ⌝ }
+    ensures plain { λ r. ⌜ made r (λ x. Plain (saidOf (x .0))) ⌝ }
 {
     let at = ends.saturating_sub(bytes.len());
     match bytes {
@@ -447,6 +456,7 @@ fn element_weight<'f>(
 ) -> Parsed<'f>
     ensures value { λ r. ⌜ seen r ≡ element-weight-at (now (sizes .entry)) (now (places .entry)) kind (now (bytes .entry)) ends ⌝ }
     ensures shorter { λ r. ⌜ made r (λ x. length (now (x .1)) < length (now (bytes .entry))) ⌝ }
+    ensures plain { λ r. ⌜ made r (λ x. Plain (saidOf (x .0))) ⌝ }
 {
     let at = ends.saturating_sub(bytes.len());
     match bytes {
@@ -477,6 +487,7 @@ fn element_weight<'f>(
 fn end<'f>(bytes: &'f [u8], ends: usize) -> Parsed<'f>
     ensures value { λ r. ⌜ seen r ≡ end-at (now (bytes .entry)) ends ⌝ }
     ensures shorter { λ r. ⌜ made r (λ x. length (now (x .1)) < length (now (bytes .entry))) ⌝ }
+    ensures plain { λ r. ⌜ made r (λ x. Plain (saidOf (x .0))) ⌝ }
 {
     let at = ends.saturating_sub(bytes.len());
     match bytes {
@@ -510,7 +521,7 @@ pub fn parse<'f>(
 ) -> Parsed<'f>
     ensures value { λ r. ⌜ seen r ≡ parse-at (context .entry) kind code (now (bytes .entry)) ends ⌝ }
     ensures shorter { λ r. ⌜ made r (λ x. length (now (x .1)) < length (now (bytes .entry))) ⌝ }
-    ensures sorted { λ r. ⌜ made r (λ x. Few (of (context .entry .signature)) → Command-sorted (context .entry) code (now (bytes .entry)) (now (x .1))) ⌝ }
+    ensures sorted { λ r. ⌜ made r (λ x. Few (of (context .entry .signature)) → Said-sorted (of (context .entry .signature)) (now (context .entry .places)) (now (context .entry .variables)) (saidOf (x .0))) ⌝ }
 {
     let s = context.signature;
     let places = context.places;

@@ -9,4 +9,5 @@ pub returns-in-Ok : need.returns-in-Ok
 returns-in-Ok c = record {
   value = grind (arith, tells, tail 3 (c .args .bytes .now), c .in-Ok .ensures tt .value);
   shorter = omega (arith, tail-shorter 3 (c .args .bytes .now) (lit< tt) (search needs), c .in-Ok .ensures tt .within);
+  plain = tt;
 }

@@ -12,6 +12,7 @@ pub returns-in-Some : need.returns-in-Some
 returns-in-Some c = record {
   value = grind (arith, tells, tail 4 (c .args .bytes .now), kind-fits (c .in-Some .field-0) (getD (c .args .bytes .now) 1 0) (c .from-be-bytes-modulus .result) (c .in-Some .ensures tt));
   shorter = tail-shorter 4 (c .args .bytes .now) (lit< tt) (search needs);
+  plain = tt;
 }
 
 pub returns-in-None : need.returns-in-None
@@ -22,4 +23,5 @@ returns-in-None c =
     record {
       value = grind (arith, tells, no-kind (getD (c .args .bytes .now) 1 0) (c .from-be-bytes-modulus .result) low high small (c .in-None .ensures tt));
       shorter = tt;
+      plain = tt;
     }

@@ -9,4 +9,5 @@ pub returns-in-len1-up : need.returns-in-len1-up
 returns-in-len1-up c = record {
   value = grind (arith, tells, tail 1 (c .args .bytes .now));
   shorter = tail-shorter 1 (c .args .bytes .now) (lit< tt) (search needs);
+  plain = tt;
 }

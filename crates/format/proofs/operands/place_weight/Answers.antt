@@ -9,4 +9,5 @@ pub returns-else-not-is-weight : need.returns-else-not-is-weight
 returns-else-not-is-weight c = record {
   value = grind (arith, tells, tail 6 (c .args .bytes .now));
   shorter = tail-shorter 6 (c .args .bytes .now) (lit< tt) (search needs);
+  plain = tt;
 }

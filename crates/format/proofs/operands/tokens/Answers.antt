@@ -9,4 +9,5 @@ pub returns-in-len5-up : need.returns-in-len5-up
 returns-in-len5-up c = record {
   value = grind (arith, tells, tail 5 (c .args .bytes .now));
   shorter = tail-shorter 5 (c .args .bytes .now) (lit< tt) (search needs);
+  plain = tt;
 }

@@ -9,7 +9,8 @@ pub returns-in-len6-up-3 : need.returns-in-len6-up-3
 returns-in-len6-up-3 c = record {
   value = grind (arith, tells, tail 6 (c .args .bytes .now));
   shorter = tail-shorter 6 (c .args .bytes .now) (lit< tt) (search needs);
+  plain = tt;
 }
 
 pub returns-in-rest : need.returns-in-rest
-returns-in-rest c = record { value = grind (arith, tells); shorter = tt }
+returns-in-rest c = record { value = grind (arith, tells); shorter = tt; plain = tt }
