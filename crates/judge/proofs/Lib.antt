@@ -1,3 +1,4 @@
+pub mod Chosen
 pub mod Turns
 pub mod Orders
 pub mod Markings

@@ -1,3 +1,4 @@
 pub mod Judged
 pub mod Theorem
 pub mod Calls
+pub mod Kinds

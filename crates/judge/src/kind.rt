@@ -1,6 +1,12 @@
+ghost use Prim.Native.Nat.{_≤_};
+ghost use Rattle.std.specs.Of.Vec.{vec-len};
+ghost use Rattle.domain.specs.Domains.{equal};
+ghost use Rattle.net.specs.Nets.{Is-kind};
+ghost use Rattle.judge.specs.Kinds.{By, By-kind};
 use crate::caps::cap;
 use crate::modes::judge;
 use crate::modes::measured;
+use crate::outcomes::without_values;
 use crate::verdict::Outcome;
 use domain::Equal;
 use domain::EqualDomain;
@@ -27,27 +33,27 @@ pub fn judge_by_kind(
     codes: &mut [i32],
     before: &mut [u32],
     after: &mut [u32],
-) -> Result<Outcome, Fault> {
-    if !measured(codes, before, after) {
-        return Err(Fault::Memory);
-    }
+) -> Result<Outcome, Fault>
+    ensures kinds { λ r. ⌜ ((k : Kind) → Is-kind (now (net .entry)) claim k → By-kind k (now (net .entry)) claim (record { codes = now (codes .entry); before = now (before .entry); after = now (after .entry) }) (record { codes = now (codes .exit); before = now (before .exit); after = now (after .exit) }) r) ⌝ }
+    ensures none { λ r. ⌜ (vec-len (now (net .entry) .claims) ≤ claim → By equal (now (net .entry)) claim (record { codes = now (codes .entry); before = now (before .entry); after = now (after .entry) }) (record { codes = now (codes .exit); before = now (before .exit); after = now (after .exit) }) r) ⌝ }
+{
     let Some(kind) = net.kind(claim) else {
-        return Err(Fault::NoClaim);
+        return without_values(judge(net, claim, &Equal, codes, before, after));
     };
     match kind {
-        Kind::Equal => Ok(judge(net, claim, &Equal, codes, before, after)?.outcome()),
-        Kind::NeverRises => Ok(judge(net, claim, &NeverRises, codes, before, after)?.outcome()),
-        Kind::NeverFalls => Ok(judge(
+        Kind::Equal => without_values(judge(net, claim, &Equal, codes, before, after)),
+        Kind::NeverRises => without_values(judge(net, claim, &NeverRises, codes, before, after)),
+        Kind::NeverFalls => without_values(judge(
             net,
             claim,
             &Turned(NeverRises),
             codes,
             before,
             after,
-        )?.outcome()),
-        Kind::Modulo(k) => Ok(judge(net, claim, &k, codes, before, after)?.outcome()),
-        Kind::Trap => Ok(judge(net, claim, &Turned(Siphon), codes, before, after)?.outcome()),
-        Kind::Siphon => Ok(judge(net, claim, &Siphon, codes, before, after)?.outcome()),
+        )),
+        Kind::Modulo(k) => without_values(judge(net, claim, &k, codes, before, after)),
+        Kind::Trap => without_values(judge(net, claim, &Turned(Siphon), codes, before, after)),
+        Kind::Siphon => without_values(judge(net, claim, &Siphon, codes, before, after)),
     }
 }
 

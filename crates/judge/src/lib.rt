@@ -2,6 +2,7 @@
 mod caps;
 mod kind;
 mod modes;
+mod outcomes;
 mod verdict;
 
 pub use caps::cap;
@@ -10,4 +11,6 @@ pub use kind::judge_by_kind;
 pub use kind::survey;
 pub use modes::judge;
 pub use verdict::Outcome;
+pub use verdict::OutcomeDebug;
+pub use verdict::OutcomePartialEq;
 pub use verdict::Verdict;

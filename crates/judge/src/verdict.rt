@@ -19,18 +19,3 @@ pub enum Outcome {
     Accepted { modes: u32 },
     Broken { transition: usize, mode: [u8; 4] },
 }
-
-impl<V: Drop> Verdict<V> {
-    // The verdict without its values.
-    pub fn outcome(self) -> Outcome {
-        match self {
-            Verdict::Accepted { modes } => Outcome::Accepted { modes },
-            Verdict::Broken {
-                transition,
-                mode,
-                before: _,
-                after: _,
-            } => Outcome::Broken { transition, mode },
-        }
-    }
-}

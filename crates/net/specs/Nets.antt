@@ -7,6 +7,7 @@ use lib.Dec.{eqb, leb, ltb}
 use lib.IntN.{ℤ}
 use lib.ListN.{drop, getD, length, take}
 use Rattle.std.specs.Of.Vec.{vec-items, vec-len}
+use Rattle.domain.specs.declared.kind.Kind.{Kind}
 use Rattle.format.specs.declared.command.Direction.{Direction}
 use Rattle.format.specs.declared.command.Direction.the-variants.{In, Out}
 use Rattle.term.specs.Meaning.{Bag, Sig, count, value}
@@ -95,3 +96,8 @@ Tallied before after m = (c : ℕ) → c < length before → getD after c 0 ≡ 
 -- the codes of a claim, one for each of 1,024 cells
 abbrev pub codes-of : Net → ℕ → List ℤ
 codes-of n k = take 1024 (drop (1024 * k) (vec-items (n .codes)))
+
+-- the net has a claim of this number and kind
+pub record Is-kind (n : Net) (claim : ℕ) (k : Kind) : Type 0 where
+  pub there : claim < vec-len (n .claims)
+  pub is : k ≡ getD (vec-items (n .claims)) claim k

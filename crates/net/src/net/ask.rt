@@ -3,10 +3,11 @@ ghost use mathlib.Core.Path.{_≡_};
 ghost use Prim.Native.Nat.{_/_, _<_, _≤_};
 ghost use lib.ListN.{drop, length, take};
 ghost use Rattle.std.specs.Of.Vec.{vec-items, vec-len};
+ghost use Rattle.std.specs.Options.{Cases as BySome};
 ghost use Rattle.term.specs.Worth.{Weighs, value-of};
 ghost use Rattle.domain.specs.Meaning.{Tells};
 ghost use Rattle.format.specs.Format.{mode-count};
-ghost use Rattle.net.specs.Nets.{Mode, Tallied, arcs-of, codes-of, digit, given, goes, guard-holds, load, mode-of, side, taken, transition};
+ghost use Rattle.net.specs.Nets.{Is-kind, Mode, Tallied, arcs-of, codes-of, digit, given, goes, guard-holds, load, mode-of, side, taken, transition};
 use super::CELLS;
 use super::Net;
 use crate::parts::Arc;
@@ -96,8 +97,14 @@ impl Net {
     }
 
     // The kind of a claim.
-    pub fn kind(&self, claim: usize) -> Option<Kind> {
-        self.claims.get(claim).copied()
+    pub fn kind(&self, claim: usize) -> Option<Kind>
+        ensures { λ r. ⌜ BySome r (vec-len (now (self .entry) .claims) ≤ claim) (λ k. Is-kind (now (self .entry)) claim k) ⌝ }
+    {
+        if claim < self.claims.len() {
+            Some(self.claims[claim])
+        } else {
+            None
+        }
     }
 
     // Writes the codes of a claim into memory of the stated length, and nothing else.
