@@ -11,40 +11,20 @@ use lib.IntN.{ℤ, pos}
 use lib.ListN.{getD, length}
 use Rattle.std.proofs.shelf.Ways.{tells}
 use Rattle.domain.specs.Meaning.{Added, Laws, Meaning, copies}
+use Rattle.domain.proofs.Copies.{copies-add, copies-holds, copies-size, exchange}
 use Rattle.term.specs.Worth.{Marking, Weighed, Weighs, on-place, value-of, value-to, weight-of}
 
 module _ {V : Type 0} {d : Meaning V} (l : Laws d) where
-  pub copies-holds : (n : ℕ) (w : V) → d .holds w → d .holds (copies d n w)
-  copies-holds zero w h = l .nil-holds
-  copies-holds (suc n) w h = l .plus-holds w (copies d n w) h (copies-holds n w h)
-
-  pub copies-size : (n : ℕ) (w : V) → d .holds w → d .size (copies d n w) ≤ n * d .size w
-  copies-size zero w h = omega (arith, l .size-nil)
-  copies-size (suc n) w h = omega (arith, l .size-plus w (copies d n w) h (copies-holds n w h), copies-size n w h)
-
-  pub copies-add : (a b : ℕ) (w : V) → d .holds w → copies d (a + b) w ≡ d .plus (copies d a w) (copies d b w)
-  copies-add zero b w h = ap (λ (n : ℕ). copies d n w) (zero-add b) ∙ sym (l .neutral (copies d b w) (copies-holds b w h))
-  copies-add (suc a) b w h =
-      ap (λ (n : ℕ). copies d n w) (suc-add a b) ∙ ap (d .plus w) (copies-add a b w h)
-      ∙ sym (l .assoc w (copies d a w) (copies d b w) h (copies-holds a w h) (copies-holds b w h))
-
   -- zero on the right is neutral too
   pub neutral-right : (v : V) → d .holds v → d .plus v (d .nil) ≡ v
   neutral-right v h = l .comm v (d .nil) h (l .nil-holds) ∙ l .neutral v h
-
-  -- (a + b) + (c + e) is (a + c) + (b + e)
-  exchange : (a b c e : V) → d .holds a → d .holds b → d .holds c → d .holds e → d .plus (d .plus a b) (d .plus c e) ≡ d .plus (d .plus a c) (d .plus b e)
-  exchange a b c e ha hb hc he =
-      l .assoc a b (d .plus c e) ha hb (l .plus-holds c e hc he)
-      ∙ ap (d .plus a) (sym (l .assoc b c e hb hc he) ∙ ap (λ (x : V). d .plus x e) (l .comm b c hb hc) ∙ l .assoc c b e hc hb he)
-      ∙ sym (l .assoc a c (d .plus b e) ha hc (l .plus-holds b e hb he))
 
   module _ (codes : List ℤ) where
     pub weight-holds : (c : ℕ) → d .holds (weight-of d codes c)
     weight-holds c = l .weight-holds (getD codes c (pos 0))
 
     cell-holds : (m : Marking) (c : ℕ) → d .holds (copies d (m c) (weight-of d codes c))
-    cell-holds m c = copies-holds (m c) (weight-of d codes c) (weight-holds c)
+    cell-holds m c = copies-holds l (m c) (weight-of d codes c) (weight-holds c)
 
     pub value-holds : (m : Marking) (k : ℕ) → d .holds (value-to d codes m k)
     value-holds m zero = l .nil-holds
@@ -54,8 +34,8 @@ module _ {V : Type 0} {d : Meaning V} (l : Laws d) where
     value-add a b zero = sym (l .neutral (d .nil) (l .nil-holds))
     value-add a b (suc k) =
         ap (λ (x : V). d .plus x (copies d (a k + b k) (weight-of d codes k))) (value-add a b k)
-        ∙ ap (d .plus (d .plus (value-to d codes a k) (value-to d codes b k))) (copies-add (a k) (b k) (weight-of d codes k) (weight-holds k))
-        ∙ exchange (value-to d codes a k) (value-to d codes b k) (copies d (a k) (weight-of d codes k)) (copies d (b k) (weight-of d codes k)) (value-holds a k) (value-holds b k) (cell-holds a k) (cell-holds b k)
+        ∙ ap (d .plus (d .plus (value-to d codes a k) (value-to d codes b k))) (copies-add l (a k) (b k) (weight-of d codes k) (weight-holds k))
+        ∙ exchange l (value-to d codes a k) (value-to d codes b k) (copies d (a k) (weight-of d codes k)) (copies d (b k) (weight-of d codes k)) (value-holds a k) (value-holds b k) (cell-holds a k) (cell-holds b k)
 
     pub value-same : (a b : Marking) (k : ℕ) → ((c : ℕ) → c < k → a c ≡ b c) → value-to d codes a k ≡ value-to d codes b k
     value-same a b zero e = refl
@@ -122,19 +102,19 @@ module _ {V : Type 0} {d : Meaning V} (l : Laws d) where
         }
 
     -- tokens in one cell
-    pub weighs-one : (v w r : V) (m : Marking) (c n : ℕ) → c < length codes → n < 256 → w ≡ weight-of d codes c → m c ≡ n → ((i : ℕ) → (i ≡ c → ⊥) → m i ≡ 0) → Added d v n w r → Weighs d codes v m n r
-    weighs-one v w r m c n lt few is here else add h s =
+    pub weighs-one : (v w r : V) (m : Marking) (c n : ℕ) → c < length codes → w ≡ weight-of d codes c → m c ≡ n → ((i : ℕ) → (i ≡ c → ⊥) → m i ≡ 0) → Added d v n w r → Weighs d codes v m n r
+    weighs-one v w r m c n lt is here else add h s =
         let hw : d .holds w = subst (d .holds) (sym is) (weight-holds c) in
         let light : d .size w ≤ 1000000 = subst (λ (x : V). d .size x ≤ 1000000) (sym is) (l .size-weight (getD codes c (pos 0))) in
         let load : n * d .size w ≤ n * 1000000 = mul-le-mul (omega arith) light in
         let er : r ≡ d .plus v (copies d n w) = add .exact (omega arith) in
         let worth : value-of d codes m ≡ copies d n w = value-one m c (length codes) lt else ∙ ap (λ (k : ℕ). copies d k (weight-of d codes c)) here ∙ ap (copies d n) (sym is) in
-        let grown : d .size (d .plus v (copies d n w)) ≤ d .size v + d .size (copies d n w) = l .size-plus v (copies d n w) h (copies-holds n w hw) in
-        let many : d .size (copies d n w) ≤ n * d .size w = copies-size n w hw in
+        let grown : d .size (d .plus v (copies d n w)) ≤ d .size v + d .size (copies d n w) = l .size-plus v (copies d n w) h (copies-holds l n w hw) in
+        let many : d .size (copies d n w) ≤ n * d .size w = copies-size l n w hw in
         let sr : d .size r ≡ d .size (d .plus v (copies d n w)) = ap (d .size) er in
         record {
           is = er ∙ ap (d .plus v) (sym worth);
-          holds = subst (d .holds) (sym er) (l .plus-holds v (copies d n w) h (copies-holds n w hw));
+          holds = subst (d .holds) (sym er) (l .plus-holds v (copies d n w) h (copies-holds l n w hw));
           size = omega arith;
         }
 

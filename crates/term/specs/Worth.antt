@@ -2,11 +2,11 @@
 use mathlib.Core.Path.{_≡_}
 use mathlib.Core.List.{List}
 use mathlib.Core.Bool.{Bool, cond}
-use Prim.Native.Nat.{ℕ, zero, suc, _+_, _-_, _*_, _^_, _≤_}
+use Prim.Native.Nat.{ℕ, zero, suc, _+_, _-_, _*_, _≤_}
 use lib.Dec.{eqb, leb}
 use lib.IntN.{ℤ, pos}
 use lib.ListN.{getD, length}
-use Rattle.domain.specs.Meaning.{Meaning, copies}
+use Rattle.domain.specs.Meaning.{Meaning, copies, largest-sum, largest-weight}
 use Rattle.term.specs.Meaning.{Bag, empty, single, sum, flexible}
 
 -- a marking gives each cell a count, without limit
@@ -35,11 +35,11 @@ module _ {V : Type 0} (d : Meaning V) (codes : List ℤ) where
   pub record Weighed (v : V) (m : Marking) (n : ℕ) (r : V) : Type 0 where
     pub is : r ≡ d .plus v (value-of m)
     pub holds : d .holds r
-    pub size : d .size r ≤ d .size v + 1000000 * n
+    pub size : d .size r ≤ d .size v + largest-weight * n
 
   -- the same, wherever the sizes stay within what adding promises
   abbrev pub Weighs : V → Marking → ℕ → V → Type 0
-  Weighs v m n r = d .holds v → d .size v + 1000000 * n ≤ 10 ^ 16 → Weighed v m n r
+  Weighs v m n r = d .holds v → d .size v + largest-weight * n ≤ largest-sum → Weighed v m n r
 
 -- at most how many tokens a bag has; a table has counts below 256 for less than 256 elements
 abbrev pub most : Bag → ℕ

@@ -24,6 +24,6 @@ returns g c =
     let fits : SFits w32 code = search needs in
     let is : c .weight-weight .result ≡ d .weight code = simp toZ-ofZ at (c .weight-weight .ensures) in
     weighs-one (g .D·WeightDomain·met .lawful (c .args .d .now)) (c .args .codes .now) _ (c .weight-weight .result) _ _ cell (c .args .n)
-    (c .if-cell-codes .left) (c .fits .n .fits) is (place-here (c .args .place) (c .args .element) (c .args .n))
+    (c .if-cell-codes .left) is (place-here (c .args .place) (c .args .element) (c .args .n))
     (λ i h. place-else (c .args .place) (c .args .element) (c .args .n) i h)
     (subst (λ (n : ℕ). Added d (c .args .sum) n (c .weight-weight .result) (c .add-copies .result)) (c .from .ensures) (c .add-copies .ensures))
