@@ -1,4 +1,6 @@
 // The bench: a net's marking in lent counts, moved by fires, backs and restarts.
+#![tactic(auto)]
+
 pub mod bench;
 pub mod counts;
 pub mod firing;

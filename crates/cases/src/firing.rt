@@ -35,6 +35,7 @@ type Step = (Call, Result<(), Fault>, usize, u16);
 // Checks calls in a row on a new bench.
 fn check_calls<'n, 'a, 'c, 'b>(
     rt: &impl Abort,
+    at: &str,
     net: &'n Net,
     counts: &'a mut Counts<'c>,
     trail: &'a mut LentList<'b, Firing>,
@@ -43,13 +44,19 @@ fn check_calls<'n, 'a, 'c, 'b>(
     let mut bench = Bench::begin(net, counts, trail);
     for (i, step) in steps.iter().enumerate() {
         let (call, answer, cell, count) = *step;
-        assert_eq!(rt; make(&mut bench, call), answer, "{}", i);
-        assert_eq!(rt; bench.count(cell), Ok(count), "{}", i);
+        assert_eq!(rt; make(&mut bench, call), answer, "{at} {}", i);
+        assert_eq!(rt; bench.count(cell), Ok(count), "{at} {}", i);
     }
 }
 
 // The same in memory of its own, on a trail with room for so many firings.
-fn check_steps(rt: &impl Abort, net: &Net, room: usize, steps: &[Step]) -> Result<(), Fail> {
+fn check_steps(
+    rt: &impl Abort,
+    at: &str,
+    net: &Net,
+    room: usize,
+    steps: &[Step],
+) -> Result<(), Fail> {
     let mut cells = [7; CELLS];
     let mut memory = [Firing {
         transition: 0,
@@ -57,7 +64,7 @@ fn check_steps(rt: &impl Abort, net: &Net, room: usize, steps: &[Step]) -> Resul
     }; 8];
     let mut trail = LentList::new(&mut memory[0..room.min(8)]);
     let mut counts = Counts::over(&mut cells);
-    check_calls(rt, net, &mut counts, &mut trail, steps);
+    check_calls(rt, at, net, &mut counts, &mut trail, steps);
     Ok(())
 }
 
@@ -103,9 +110,9 @@ const ROOM_FOR_ONE: [Step; 5] = [
 fn calls_on_the_small_net(rt: HostRuntime) -> Result<(), Fail> {
     let file = joined(rt.alloc(), &[SMALL])?;
     let net = net_of(rt.alloc(), file.as_slice())?;
-    check_steps(&rt, &net, 8, &STEPS)?;
-    check_steps(&rt, &net, 0, &NO_ROOM).note("no room")?;
-    check_steps(&rt, &net, 1, &ROOM_FOR_ONE).note("room for one")
+    check_steps(&rt, "the small net", &net, 8, &STEPS)?;
+    check_steps(&rt, "no room", &net, 0, &NO_ROOM)?;
+    check_steps(&rt, "room for one", &net, 1, &ROOM_FOR_ONE)
 }
 
 // Cell 0 holds 65,534. Transition 0 puts 1 there, 1 takes 1 and puts 1, 2 takes 1 and puts 2, 3 puts 1 there and
@@ -144,7 +151,7 @@ const AT_ONCE: [Step; 4] = [
 fn full_cells_and_guards(rt: HostRuntime) -> Result<(), Fail> {
     let file = joined(rt.alloc(), &[NEARLY_FULL])?;
     let net = net_of(rt.alloc(), file.as_slice())?;
-    check_steps(&rt, &net, 8, &FULL)?;
+    check_steps(&rt, "nearly full", &net, 8, &FULL)?;
     let file = repeated(
         rt.alloc(),
         MANY,
@@ -153,7 +160,7 @@ fn full_cells_and_guards(rt: HostRuntime) -> Result<(), Fail> {
         "0900 32 3300210100 32 3300210100 3300210100 0F",
     )?;
     let net = net_of(rt.alloc(), file.as_slice())?;
-    check_steps(&rt, &net, 8, &AT_ONCE).note("at once")
+    check_steps(&rt, "at once", &net, 8, &AT_ONCE)
 }
 
 // Checks the counts of a new bench on the small net.

@@ -28,14 +28,21 @@ fn told(verdict: Result<Outcome, Fault>) -> Answer {
 }
 
 // Checks the verdict of claim 0.
-fn check_answer(rt: &impl Abort, heap: Global, file: &[u8], want: Answer) -> Result<(), Fail> {
+fn check_answer(
+    rt: &impl Abort,
+    at: &str,
+    heap: Global,
+    file: &[u8],
+    want: Answer,
+) -> Result<(), Fail> {
     let net = net_of(heap, file)?;
     let mut codes = [7; CELLS];
     let mut before = [7; CELLS];
     let mut after = [7; CELLS];
     assert_eq!(rt;
         told(judge_by_kind(&net, 0, &mut codes, &mut before, &mut after)),
-        want
+        want,
+        "{at}"
     );
     Ok(())
 }
@@ -114,10 +121,16 @@ const VERDICTS: [(&str, Answer); 16] = [
 fn verdicts_by_kind(rt: HostRuntime) -> Result<(), Fail> {
     for (file, want) in VERDICTS {
         let bytes = joined(rt.alloc(), &[file])?;
-        check_answer(&rt, rt.alloc(), bytes.as_slice(), want).note(file)?;
+        check_answer(&rt, file, rt.alloc(), bytes.as_slice(), want)?;
     }
     let larger = changed(rt.alloc(), 1, 2, "40")?;
-    check_answer(&rt, rt.alloc(), larger.as_slice(), Accepted(128))
+    check_answer(
+        &rt,
+        "a larger sort",
+        rt.alloc(),
+        larger.as_slice(),
+        Accepted(128),
+    )
 }
 
 // How many of the counts are not 0.
@@ -395,6 +408,7 @@ const REFUSALS: [(usize, usize, [usize; 3], u8); 7] = [
 // Checks that a cap and a verdict are refused and leave the memory; no verdict asks for a cell.
 fn check_refused(
     rt: &impl Abort,
+    at: &str,
     net: &Net,
     claim: usize,
     cell: usize,
@@ -409,15 +423,21 @@ fn check_refused(
     let put = &mut after[0..lengths[2].min(1025)];
     assert_eq!(rt;
         cap_of(cap_by_kind(net, claim, cell, lent, taken, put)),
-        Err(number)
+        Err(number),
+        "{at}"
     );
     if number < 13 {
         assert_eq!(rt;
             told(judge_by_kind(net, claim, lent, taken, put)),
-            Refused(number)
+            Refused(number),
+            "{at}"
         );
     }
-    assert_eq!(rt; (codes[0], codes[64], before[0], after[0]), (7, 7, 7, 7));
+    assert_eq!(rt;
+        (codes[0], codes[64], before[0], after[0]),
+        (7, 7, 7, 7),
+        "{at}"
+    );
     Ok(())
 }
 
@@ -426,9 +446,15 @@ fn refusals_leave_the_memory(rt: HostRuntime) -> Result<(), Fail> {
     let small = joined(rt.alloc(), &[SMALL])?;
     let net = net_of(rt.alloc(), small.as_slice())?;
     for (claim, cell, lengths, number) in REFUSALS {
-        check_refused(&rt, &net, claim, cell, lengths, number).note(format_args!(
-            "{claim} {cell} {number}"
-        ))?;
+        check_refused(
+            &rt,
+            format!(in rt.alloc(); "{claim} {cell} {number}")?.as_str(),
+            &net,
+            claim,
+            cell,
+            lengths,
+            number,
+        )?;
     }
     Ok(())
 }

@@ -1,4 +1,6 @@
 // Examples of nets, claims, firings and traces, with their exact answers.
+#![tactic(auto)]
+
 #[cfg(test)]
 mod firing;
 #[cfg(test)]

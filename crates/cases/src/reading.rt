@@ -10,6 +10,7 @@ use term::Stage::{Command, File, Term};
 // Checks that a file has this fault.
 fn check_fault(
     rt: &impl Abort,
+    at: &str,
     heap: Global,
     file: &[u8],
     number: u8,
@@ -22,7 +23,8 @@ fn check_fault(
         Err(ReadError::File(f)) => {
             assert_eq!(rt;
                 (f.fault.number(), f.place, f.stage),
-                (number, place, stage)
+                (number, place, stage),
+                "{at}"
             );
             Ok(())
         },
@@ -30,12 +32,12 @@ fn check_fault(
 }
 
 // Checks that a file reads.
-fn check_reads(rt: &impl Abort, heap: Global, file: &[u8]) -> Result<(), Fail> {
+fn check_reads(rt: &impl Abort, at: &str, heap: Global, file: &[u8]) -> Result<(), Fail> {
     match net_of(heap, file) {
         Ok(_) => Ok(()),
         Err(ReadError::Memory) => Err(Fail::new("no memory")),
         Err(ReadError::File(f)) => {
-            assert_eq!(rt; (f.fault.number(), f.place, f.stage), (0, 0, File));
+            assert_eq!(rt; (f.fault.number(), f.place, f.stage), (0, 0, File), "{at}");
             Ok(())
         },
     }
@@ -67,9 +69,15 @@ const CHANGES: [(usize, usize, &str, u8, usize, Stage); 18] = [
 fn changes_of_the_small_net(rt: HostRuntime) -> Result<(), Fail> {
     for (from, to, with, number, place, stage) in CHANGES {
         let file = changed(rt.alloc(), from, to, with)?;
-        check_fault(&rt, rt.alloc(), file.as_slice(), number, place, stage).note(format_args!(
-            "{with} from {from}"
-        ))?;
+        check_fault(
+            &rt,
+            format!(in rt.alloc(); "{with} from {from}")?.as_str(),
+            rt.alloc(),
+            file.as_slice(),
+            number,
+            place,
+            stage,
+        )?;
     }
     Ok(())
 }
@@ -82,7 +90,15 @@ fn a_cut_off_file_lacks_its_next_byte(rt: HostRuntime) -> Result<(), Fail> {
             33..=35 | 38..=41 | 44..=46 | 55..=57 | 60..=62 | 65..=68 => Term,
             _ => Command,
         };
-        check_fault(&rt, rt.alloc(), file.as_slice(), 2, length, stage).note(length)?;
+        check_fault(
+            &rt,
+            format!(in rt.alloc(); "{length}")?.as_str(),
+            rt.alloc(),
+            file.as_slice(),
+            2,
+            length,
+            stage,
+        )?;
     }
     Ok(())
 }
@@ -168,7 +184,15 @@ const COMMANDS: [(&str, u8, usize, Stage); 73] = [
 fn faults_of_commands(rt: HostRuntime) -> Result<(), Fail> {
     for (file, number, place, stage) in COMMANDS {
         let bytes = joined(rt.alloc(), &[file])?;
-        check_fault(&rt, rt.alloc(), bytes.as_slice(), number, place, stage).note(file)?;
+        check_fault(
+            &rt,
+            file,
+            rt.alloc(),
+            bytes.as_slice(),
+            number,
+            place,
+            stage,
+        )?;
     }
     Ok(())
 }
@@ -240,13 +264,13 @@ fn faults_in_terms(rt: HostRuntime) -> Result<(), Fail> {
         let file = joined(rt.alloc(), &[SORTED, more])?;
         check_fault(
             &rt,
+            more,
             rt.alloc(),
             file.as_slice(),
             number,
             place.saturating_add(46),
             stage,
-        )
-        .note(more)?;
+        )?;
     }
     Ok(())
 }
@@ -280,10 +304,10 @@ const READ: [&str; 21] = [
 fn files_that_read(rt: HostRuntime) -> Result<(), Fail> {
     for file in READ {
         let bytes = joined(rt.alloc(), &[file])?;
-        check_reads(&rt, rt.alloc(), bytes.as_slice()).note(file)?;
+        check_reads(&rt, file, rt.alloc(), bytes.as_slice())?;
     }
     let larger = changed(rt.alloc(), 1, 2, "40")?;
-    check_reads(&rt, rt.alloc(), larger.as_slice())
+    check_reads(&rt, "a larger sort", rt.alloc(), larger.as_slice())
 }
 
 // Terms at the deepest level and one below it: after `SORTED`, a head, `24` or `32` some times, and a tail.
@@ -305,16 +329,16 @@ fn sixteen_levels_are_the_deepest(rt: HostRuntime) -> Result<(), Fail> {
         file.extend_from_slice(more.as_slice())?;
         check_fault(
             &rt,
+            tail,
             rt.alloc(),
             file.as_slice(),
             number,
             place.saturating_add(46),
             Term,
-        )
-        .note(tail)?;
+        )?;
     }
     let term = repeated(rt.alloc(), "060000000000 07", "24", 15, "210000 0F")?;
-    check_reads(&rt, rt.alloc(), term.as_slice())?;
+    check_reads(&rt, "a deep term", rt.alloc(), term.as_slice())?;
     let sum = repeated(
         rt.alloc(),
         "0400 060000000000 0800 323232323232323232323232323232",
@@ -322,7 +346,7 @@ fn sixteen_levels_are_the_deepest(rt: HostRuntime) -> Result<(), Fail> {
         16,
         "0F",
     )?;
-    check_reads(&rt, rt.alloc(), sum.as_slice())?;
+    check_reads(&rt, "a deep sum", rt.alloc(), sum.as_slice())?;
     let token = repeated(
         rt.alloc(),
         "0400 060000000000 0800 3232323232323232323232323232 31210000",
@@ -330,7 +354,7 @@ fn sixteen_levels_are_the_deepest(rt: HostRuntime) -> Result<(), Fail> {
         14,
         "0F",
     )?;
-    check_reads(&rt, rt.alloc(), token.as_slice())
+    check_reads(&rt, "a deep token", rt.alloc(), token.as_slice())
 }
 
 // A command that may stand so many times behind a head, and no more.
@@ -355,13 +379,13 @@ const LIMITS: [(&str, &str, usize); 10] = [
 fn one_more_passes_a_limit(rt: HostRuntime) -> Result<(), Fail> {
     for (head, unit, most) in LIMITS {
         let file = repeated(rt.alloc(), head, unit, most, "0F")?;
-        check_reads(&rt, rt.alloc(), file.as_slice()).note(unit)?;
+        check_reads(&rt, unit, rt.alloc(), file.as_slice())?;
         let place = file.len().saturating_sub(1);
         let mut file = repeated(rt.alloc(), head, unit, most.saturating_add(1), "0F")?;
-        check_fault(&rt, rt.alloc(), file.as_slice(), 5, place, Command).note(unit)?;
+        check_fault(&rt, unit, rt.alloc(), file.as_slice(), 5, place, Command)?;
         // the fault is at the code byte, whatever follows it
         file.truncate(place.saturating_add(1));
-        check_fault(&rt, rt.alloc(), file.as_slice(), 5, place, Command).note(unit)?;
+        check_fault(&rt, unit, rt.alloc(), file.as_slice(), 5, place, Command)?;
     }
     Ok(())
 }
@@ -376,13 +400,29 @@ fn the_longest_file(rt: HostRuntime) -> Result<(), Fail> {
         "0F",
     )?;
     assert_eq!(rt; file.len(), 65536);
-    check_reads(&rt, rt.alloc(), file.as_slice())?;
+    check_reads(&rt, "the longest", rt.alloc(), file.as_slice())?;
     file.push(0x0F)?;
-    check_fault(&rt, rt.alloc(), file.as_slice(), 1, 65536, File)?;
+    check_fault(
+        &rt,
+        "one byte more",
+        rt.alloc(),
+        file.as_slice(),
+        1,
+        65536,
+        File,
+    )?;
     let mut zeros = repeated(rt.alloc(), "", "00", 65537, "")?;
-    check_fault(&rt, rt.alloc(), zeros.as_slice(), 1, 65536, File)?;
+    check_fault(
+        &rt,
+        "zeros, one more",
+        rt.alloc(),
+        zeros.as_slice(),
+        1,
+        65536,
+        File,
+    )?;
     zeros.truncate(65536);
-    check_fault(&rt, rt.alloc(), zeros.as_slice(), 3, 0, Command)
+    check_fault(&rt, "zeros", rt.alloc(), zeros.as_slice(), 3, 0, Command)
 }
 
 #[test]

@@ -168,7 +168,16 @@ fn a_recording_ends_at_65536_bytes(rt: HostRuntime) -> Result<(), Fail> {
     let Ok(bytes) = ended.trace(memory.as_slice()) else {
         return Err(Fail::new("no trace"));
     };
-    check_replay(&rt, rt.alloc(), &net, bytes, (65535, 0, 0), 0, QUIET)
+    check_replay(
+        &rt,
+        "the longest",
+        rt.alloc(),
+        &net,
+        bytes,
+        (65535, 0, 0),
+        0,
+        QUIET,
+    )
 }
 
 // Commands to record, and how their replay on the small net ends: how many were carried out, the fault and its place,
@@ -206,7 +215,16 @@ fn recordings_replayed(rt: HostRuntime) -> Result<(), Fail> {
         let Ok(bytes) = ended.trace(&memory) else {
             return Err(Fail::new("no trace"));
         };
-        check_replay(&rt, rt.alloc(), &net, bytes, want, firings, tokens)?;
+        check_replay(
+            &rt,
+            "a recording",
+            rt.alloc(),
+            &net,
+            bytes,
+            want,
+            firings,
+            tokens,
+        )?;
     }
     Ok(())
 }

@@ -23,6 +23,7 @@ fn ended(replayed: Replayed) -> Ended {
 // how many tokens the cells 0, 1, 64 and 128 then have.
 pub fn check_replay(
     rt: &impl Abort,
+    at: &str,
     heap: Global,
     net: &Net,
     bytes: &[u8],
@@ -39,10 +40,10 @@ pub fn check_replay(
     let Ok(replayed) = replay(net, &mut cells, &mut trail, bytes) else {
         return Err(Fail::new("refused"));
     };
-    assert_eq!(rt; ended(replayed), want);
-    assert_eq!(rt; trail.len(), firings);
-    assert_eq!(rt; [cells[0], cells[1], cells[64], cells[128]], tokens);
-    assert_eq!(rt; (cells[2], cells[1023]), (0, 0));
+    assert_eq!(rt; ended(replayed), want, "{at}");
+    assert_eq!(rt; trail.len(), firings, "{at}");
+    assert_eq!(rt; [cells[0], cells[1], cells[64], cells[128]], tokens, "{at}");
+    assert_eq!(rt; (cells[2], cells[1023]), (0, 0), "{at}");
     Ok(())
 }
 
@@ -87,14 +88,14 @@ fn replays_on_the_small_net(rt: HostRuntime) -> Result<(), Fail> {
         let bytes = joined(rt.alloc(), &[text])?;
         check_replay(
             &rt,
+            text,
             rt.alloc(),
             &net,
             bytes.as_slice(),
             want,
             firings,
             tokens,
-        )
-        .note(text)?;
+        )?;
     }
     Ok(())
 }
@@ -143,14 +144,14 @@ fn long_traces(rt: HostRuntime) -> Result<(), Fail> {
         let bytes = repeated(rt.alloc(), head, unit, times, tail)?;
         check_replay(
             &rt,
+            tail,
             rt.alloc(),
             &net,
             bytes.as_slice(),
             want,
             firings,
             tokens,
-        )
-        .note(tail)?;
+        )?;
     }
     Ok(())
 }

@@ -21,7 +21,7 @@ whole rel = record {
   nil = pos 0;
   plus = ◌+ℤ◌;
   rel = rel;
-  size = nat_abs;
+  size = unsigned_abs;
   weighs = whole_code;
   weight = whole_weight;
 }

@@ -6,3 +6,4 @@ pub mod Wholes
 pub mod Residues
 pub mod Truths
 pub mod Turning
+pub mod Plains

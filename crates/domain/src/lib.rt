@@ -1,4 +1,6 @@
 // Weight domains: where the weights of a claim take their values, and how values add up and compare.
+#![tactic(auto)]
+
 ghost use Rattle.std.specs.Prelude.{◌≡◌};
 ghost use Rattle.domain.specs.Meaning.{Added, Laws, Meaning, Tells, row_of};
 

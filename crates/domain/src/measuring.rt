@@ -1,7 +1,7 @@
 ghost use Rattle.std.specs.Prelude.{◌≡◌, pos, ◌≤ℤ◌};
 ghost use Rattle.domain.specs.Meaning.{Tells};
 ghost use Rattle.domain.specs.Measure.{Largest, PlainLaws, truth_largest, whole_largest};
-ghost use Rattle.std.proofs.Common.{rules};
+ghost use Rattle.domain.specs.Plains.{truths_plain, wholes_plain};
 
 use crate::{Equal, NeverRises, Siphon, WeightDomain};
 
@@ -19,14 +19,14 @@ pub trait Measuring: WeightDomain {
     // Whether v is plain, as sums of plain values are.
     fn is_plain(&self, v: &Self::Value) -> bool
         ensures tells { Tells result (plain self.now v.now) }
-        ensures sums { PlainLaws (meaning self.now) (plain self.now) };
+        ensures sums { PlainLaws (Self.meaning self.now) (plain self.now) };
 
     // The largest n such that v relates to n copies of w plus some plain value; 0 where v or w is not plain.
     fn largest(&self, v: &Self::Value, w: &Self::Value) -> Most
-        ensures plains { plain self.now v.now → plain self.now w.now → Largest (meaning self.now) (plain self.now) v.now w.now result }
+        ensures plains { plain self.now v.now → plain self.now w.now → Largest (Self.meaning self.now) (plain self.now) v.now w.now result }
         ensures others { (plain self.now v.now × plain self.now w.now → ⊥) → result ≡ Most.At 0 };
 
-    ghost measured: { (d : Self) → PlainLaws (meaning d) (plain d) };
+    ghost measured: { (d : Self) → PlainLaws (Self.meaning d) (plain d) };
 }
 
 fn is_natural(v: i64) -> bool
@@ -58,7 +58,7 @@ fn largest_truth(v: bool, w: bool) -> Most
 impl Measuring for Equal {
     ghost plain = { λ _ v. pos 0 ≤ℤ v };
 
-    ghost measured = { Prim.search rules };
+    ghost measured = { λ _. wholes_plain (λ v w. v ≡ w) };
 
     fn is_plain(&self, v: &i64) -> bool {
         is_natural(*v)
@@ -72,7 +72,7 @@ impl Measuring for Equal {
 impl Measuring for NeverRises {
     ghost plain = { λ _ v. pos 0 ≤ℤ v };
 
-    ghost measured = { Prim.search rules };
+    ghost measured = { λ _. wholes_plain (λ v w. w ≤ℤ v) };
 
     fn is_plain(&self, v: &i64) -> bool {
         is_natural(*v)
@@ -86,7 +86,7 @@ impl Measuring for NeverRises {
 impl Measuring for Siphon {
     ghost plain = { λ _ _. Unit {0} };
 
-    ghost measured = { Prim.search rules };
+    ghost measured = { λ _. truths_plain };
 
     fn is_plain(&self, _v: &bool) -> bool {
         true

@@ -5,14 +5,14 @@ use crate::WeightDomain;
 
 // v with n copies of the weight of a code: the step of every sum over a marking.
 pub fn add_weight<D: WeightDomain>(d: &D, v: &D::Value, n: u32, code: i32) -> D::Value
-    ensures { Grown (meaning d.now) v.now n code result }
+    ensures { Grown (D.meaning d.now) v.now n code result }
 {
     add_code(d, v, n, code)
 }
 
 // What the sum is; that it stays small is left to the laws.
 fn add_code<D: WeightDomain>(d: &D, v: &D::Value, n: u32, code: i32) -> D::Value
-    ensures { Added (meaning d.now) v.now n ((meaning d.now).weight code) result }
+    ensures { Added (D.meaning d.now) v.now n ((D.meaning d.now).weight code) result }
 {
     let w = d.weight(code);
     d.add_copies(v, n, &w)
@@ -20,7 +20,7 @@ fn add_code<D: WeightDomain>(d: &D, v: &D::Value, n: u32, code: i32) -> D::Value
 
 // The theorems on copies and sums that hold in every domain.
 pub fn laws_give<D: WeightDomain>(d: &D)
-    ensures split { CopiesSplit (meaning d.now) }
-    ensures commute { CopiesCommute (meaning d.now) }
-    ensures relate { SumsRelate (meaning d.now) }
+    ensures split { CopiesSplit (D.meaning d.now) }
+    ensures commute { CopiesCommute (D.meaning d.now) }
+    ensures relate { SumsRelate (D.meaning d.now) }
 {}

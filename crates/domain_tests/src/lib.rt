@@ -1,4 +1,6 @@
 // A domain of a caller's own, and examples of every domain.
+#![tactic(auto)]
+
 ghost use Rattle.std.specs.Prelude.{◌≡◌, ◌≤◌, length};
 ghost use Rattle.domain_tests.specs.Greatest.{greatest};
 ghost use Rattle.domain_tests.specs.Total.{total_of};
@@ -54,7 +56,7 @@ impl WeightDomain for Greatest {
 // The sum of one weight for each code, in any domain: few enough codes that it is exact.
 pub fn total<D: WeightDomain>(d: &D, codes: &[i32]) -> D::Value
     requires { length codes.now ≤ 10000 }
-    ensures { result ≡ total_of (meaning d.now) codes.now }
+    ensures { result ≡ total_of (D.meaning d.now) codes.now }
 {
     let mut sum = d.zero();
     for code in codes {

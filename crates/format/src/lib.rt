@@ -1,4 +1,6 @@
 // The format of net files: commands, their order, and their operands.
+#![tactic(auto)]
+
 pub mod command;
 pub mod operands;
 pub mod section;

@@ -1,4 +1,6 @@
 // Judging claims and reading caps, under any weight domain and by kind.
+#![tactic(auto)]
+
 mod caps;
 mod kind;
 mod modes;

@@ -10,7 +10,7 @@ use term::Fault;
 
 // Judges the modes of one transition, the first variable slowest.
 fn judge_modes<D: WeightDomain>(net: &Net, t: usize, d: &D, codes: &[i32]) -> Verdict<D::Value>
-    ensures { JudgedModes (meaning d.now) codes.now net.now t result }
+    ensures { JudgedModes (D.meaning d.now) codes.now net.now t result }
 {
     let mut seen: u32 = 0;
     for i in 0..net.modes(t) {
@@ -33,7 +33,7 @@ fn judge_modes<D: WeightDomain>(net: &Net, t: usize, d: &D, codes: &[i32]) -> Ve
 
 // Judges all transitions in the order of the file.
 fn judge_all<D: WeightDomain>(net: &Net, d: &D, codes: &[i32]) -> Verdict<D::Value>
-    ensures { Judged (meaning d.now) codes.now net.now result }
+    ensures { Judged (D.meaning d.now) codes.now net.now result }
 {
     let mut seen: u32 = 0;
     for t in 0..net.transitions() {
@@ -66,7 +66,7 @@ pub(crate) fn measured(codes: &[i32], before: &[u32], after: &[u32]) -> bool
 
 // Whether every code is a weight.
 pub(crate) fn are_weights<D: WeightDomain>(d: &D, codes: &[i32]) -> bool
-    ensures { Tells result (AllWeigh (meaning d.now) codes.now) }
+    ensures { Tells result (AllWeigh (D.meaning d.now) codes.now) }
 {
     for code in codes {
         if !d.is_weight(*code) {
@@ -85,7 +85,7 @@ pub(crate) fn judge_codes<D: WeightDomain>(
     after: &mut [u32],
 ) -> Verdict<D::Value>
     requires { Measured codes.now before.old after.old }
-    ensures { VerdictOn (meaning d.now) codes.now net.now result before.new after.new }
+    ensures { VerdictOn (D.meaning d.now) codes.now net.now result before.new after.new }
 {
     match judge_all(net, d, codes) {
         Verdict::Accepted { modes } => {
@@ -122,7 +122,7 @@ pub fn judge<D: WeightDomain>(
     before: &mut [u32],
     after: &mut [u32],
 ) -> Result<Verdict<D::Value>, Fault>
-    ensures { Called (meaning d.now) net.now claim (record { codes = codes.entry.now; before = before.old; after = after.old }) (record { codes = codes.exit.now; before = before.new; after = after.new }) result }
+    ensures { Called (D.meaning d.now) net.now claim (record { codes = codes.entry.now; before = before.old; after = after.old }) (record { codes = codes.exit.now; before = before.new; after = after.new }) result }
 {
     if !measured(codes, before, after) {
         return Err(Fault::Memory);

@@ -1,4 +1,6 @@
 // A list that grows in memory which its maker lends it.
+#![tactic(auto)]
+
 pub mod list;
 
 pub use list::{Full, LentList};

@@ -1,4 +1,6 @@
 // Nets: the reader, and what judging and firing ask of a net.
+#![tactic(auto)]
+
 pub mod net;
 pub mod parts;
 pub mod reader;

@@ -1,4 +1,6 @@
 // Reads net.bin and trace.bin, judges every claim, replays the trace, and prints the report.
+#![tactic(auto)]
+
 mod report;
 
 use anyhow::anyhow;
@@ -7,8 +9,8 @@ use judge::{Outcome, survey};
 use lent::list::LentList;
 use net::{CELLS, Net, ReadError, read};
 use report::{add_cells, add_claim, add_fault, add_replay};
-use std::alloc::Global;
-use std::{fmt, fs};
+use std::alloc::{AllocError, Global};
+use std::fs;
 use trace::replay;
 
 // How many firings the trail can hold.
@@ -23,7 +25,7 @@ fn contents(rt: &HostRuntime, path: &str) -> Vec<u8> {
 }
 
 // The verdicts of all claims, one line each.
-fn add_claims(net: &Net, text: &mut String) -> fmt::Result {
+fn add_claims(net: &Net, text: &mut String) -> Result<(), AllocError> {
     let mut codes = [0i32; CELLS];
     let mut before = [0u32; CELLS];
     let mut after = [0u32; CELLS];

@@ -1,4 +1,6 @@
 // Terms and bags in prefix form: their check and their value in a mode.
+#![tactic(auto)]
+
 pub mod bag;
 pub mod check;
 pub mod evaluate;

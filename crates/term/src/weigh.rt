@@ -17,7 +17,7 @@ fn weigh<D: WeightDomain>(
     n: u8,
     sum: D::Value,
 ) -> D::Value
-    ensures { Weighs (meaning d.now) codes.now sum (on_place place (λ e. (if nat_eq element e then n else 0))) n result }
+    ensures { Weighs (D.meaning d.now) codes.now sum (on_place place (λ e. (if nat_eq element e then n else 0))) n result }
 {
     let cell = 64 * place as usize + element as usize;
     if cell >= codes.len() {
@@ -37,7 +37,7 @@ fn weigh_row<D: WeightDomain>(
     place: u8,
     sum: D::Value,
 ) -> D::Value
-    ensures { Weighs (meaning d.now) codes.now sum (on_place place (copies_in (of s.entry) o argument)) 65025 result }
+    ensures { Weighs (D.meaning d.now) codes.now sum (on_place place (copies_in (of s.entry) o argument)) 65025 result }
 {
     let size = at(s.sizes, o.result as usize);
     let row = o.table as usize + argument as usize * size as usize;
@@ -59,7 +59,7 @@ pub fn weigh_bag<'f, D: WeightDomain>(
     place: u8,
     sum: D::Value,
 ) -> (D::Value, &'f [u8])
-    ensures sum { Weighs (meaning d.now) codes.now sum (on_place place (count (of s.entry) mode.now (bag_at (of s.entry) depth bytes.now).0)) (most (bag_at (of s.entry) depth bytes.now).0) result.0 }
+    ensures sum { Weighs (D.meaning d.now) codes.now sum (on_place place (count (of s.entry) mode.now (bag_at (of s.entry) depth bytes.now).0)) (most (bag_at (of s.entry) depth bytes.now).0) result.0 }
     ensures rest { result.1.now ≡ (bag_at (of s.entry) depth bytes.now).1 }
 {
     if depth == 0 {

@@ -1,4 +1,6 @@
 // Traces: what was done on a bench, replayed and recorded.
+#![tactic(auto)]
+
 pub mod commands;
 pub mod recording;
 pub mod replays;

@@ -11,5 +11,5 @@ loop-code-preserved g c =
     let inv = c.loop-code.invariant in
     let code = get_or c.args.codes.now c.loop-code.code-index (pos 0) in
     let fits : SFits w32 code = search rules in
-    let grown : Grown d c.loop-code.sum 1 code c.add-weight-sum.result = simp to_z-of_z at c.add-weight-sum.ensures in
-    next law c.args.codes.now c.loop-code.code-index c.loop-code.sum c.add-weight-sum.result (omega arith) inv.0 inv.1 inv.2 grown
+    let grown : Grown d c.loop-code.sum 1 code c.add_weight-sum.result = simp to_z-of_z at c.add_weight-sum.ensures in
+    next law c.args.codes.now c.loop-code.code-index c.loop-code.sum c.add_weight-sum.result (omega arith) inv.0 inv.1 inv.2 grown

@@ -222,7 +222,7 @@ impl Net {
         d: &D,
         codes: &[i32],
     ) -> D::Value
-        ensures { Weighs (meaning d.now) codes.now (meaning d.now).nil (side self.now mode direction (arcs_of self.now t)) (load self.now direction (arcs_of self.now t)) result }
+        ensures { Weighs (D.meaning d.now) codes.now (D.meaning d.now).nil (side self.now mode direction (arcs_of self.now t)) (load self.now direction (arcs_of self.now t)) result }
     {
         let s = self.signature();
         let mut sum = d.zero();
@@ -252,8 +252,8 @@ impl Net {
         d: &D,
         codes: &[i32],
     ) -> (D::Value, D::Value)
-        ensures before { result.0 ≡ value_of (meaning d.now) codes.now (taken self.now t mode) }
-        ensures after { result.1 ≡ value_of (meaning d.now) codes.now (given self.now t mode) }
+        ensures before { result.0 ≡ value_of (D.meaning d.now) codes.now (taken self.now t mode) }
+        ensures after { result.1 ≡ value_of (D.meaning d.now) codes.now (given self.now t mode) }
     {
         (
             self.weigh(t, mode, Direction::In, d, codes),

@@ -12,11 +12,11 @@ loop-i-preserved g c =
     let short : i < 255 = omega (arith, c.places-i-end.ensures) in
     let fits : SFits w32 code = search rules in
     let weight : c.weight-weight.result ≡ d.weight code = simp to_z-of_z at c.weight-weight.ensures in
-    more (g.met.Self.WeightDomain.lawful c.args.self.now) counts c.args.codes.now (λ j. (c.type-inv.counts j).fits) i c.from.result c.loop-i.row c.weight-weight.result c.add-copies-row.result
-    short c.from.ensures weight c.loop-i.invariant c.add-copies-row.ensures
+    more (g.met.Self.WeightDomain.lawful c.args.self.now) counts c.args.codes.now (λ j. (c.type_inv.counts j).fits) i c.from.result c.loop-i.row c.weight-weight.result c.add_copies-row.result
+    short c.from.ensures weight c.loop-i.invariant c.add_copies-row.ensures
 
 pub returns : goal.returns
 returns g c =
     let end : c.loop-i.i ≡ c.places-i-end.result = omega arith in
-    all (g.met.Self.WeightDomain.lawful c.args.self.now) c.args.counts.now c.args.codes.now c.loop-i.i c.args.v.now c.loop-i.row c.add-copies.result
-    (cc) c.loop-i.invariant c.add-copies.ensures
+    all (g.met.Self.WeightDomain.lawful c.args.self.now) c.args.counts.now c.args.codes.now c.loop-i.i c.args.v.now c.loop-i.row c.add_copies.result
+    (cc) c.loop-i.invariant c.add_copies.ensures

@@ -8,5 +8,5 @@ pub returns : goal.returns
 returns g c =
     let d = g.D.WeightDomain.meaning c.args.d.now in
     let fits : SFits w32 c.args.code = search rules in
-    let added : Added d c.args.v.now c.args.n (d.weight c.args.code) c.add-code.result = simp to_z-of_z at c.add-code.ensures in
-    grown (g.met.D.WeightDomain.lawful c.args.d.now) c.args.v.now c.add-code.result c.args.n c.args.code added
+    let added : Added d c.args.v.now c.args.n (d.weight c.args.code) c.add_code.result = simp to_z-of_z at c.add_code.ensures in
+    grown (g.met.D.WeightDomain.lawful c.args.d.now) c.args.v.now c.add_code.result c.args.n c.args.code added

@@ -12,18 +12,18 @@ here c =
     let weight : c.from-in-loop-i.result ≡ whole_weight code = c.from-in-loop-i.ensures ∙ to_z-of_z w32 code fits ∙ sym (rw (c.requires i (omega arith))) in
     record {
       short = omega (arith, c.places-i-end.ensures);
-      bytes = λ j. (c.type-inv.counts j).fits;
+      bytes = λ j. (c.type_inv.counts j).fits;
       count = c.from.ensures;
-      count_fits = record { sfits = c.from.type-inv };
+      count_fits = record { sfits = c.from.type_inv };
       weight = weight;
-      weight-fits = record { sfits = c.from-in-loop-i.type-inv };
+      weight-fits = record { sfits = c.from-in-loop-i.type_inv };
     }
 
-pub overflow-mul-row : goal.overflow-mul-row
-overflow-mul-row c = product (here c) c.loop-i.invariant
+pub overflow_mul-row : goal.overflow_mul-row
+overflow_mul-row c = product (here c) c.loop-i.invariant
 
-pub overflow-add-row : goal.overflow-add-row
-overflow-add-row c = sum (here c) c.loop-i.invariant
+pub overflow_add-row : goal.overflow_add-row
+overflow_add-row c = sum (here c) c.loop-i.invariant
 
 pub loop-i-preserved : goal.loop-i-preserved
 loop-i-preserved c = next (here c) c.loop-i.invariant

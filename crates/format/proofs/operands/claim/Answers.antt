@@ -6,7 +6,7 @@ use Rattle.format.proofs.operands.claim.Goals as goal
 
 pub returns-in-Some : goal.returns-in-Some
 returns-in-Some c = record {
-  value = grind (arith, nat_tests, tail 4 c.args.bytes.now, kind_fits c.in-Some.field-0 (get_or c.args.bytes.now 1 0) c.from-be-bytes-modulus.result c.in-Some.ensures);
+  value = grind (arith, nat_tests, tail 4 c.args.bytes.now, kind_fits c.in-Some.field-0 (get_or c.args.bytes.now 1 0) c.from_be_bytes-modulus.result c.in-Some.ensures);
   shorter = tail-shorter 4 c.args.bytes.now (lit< tt) (search rules);
   plain = tt;
 }
@@ -15,9 +15,9 @@ pub returns-in-None : goal.returns-in-None
 returns-in-None c =
     let low : 1 ≤ get_or c.args.bytes.now 1 0 = search rules in
     let high : get_or c.args.bytes.now 1 0 ≤ 6 = search rules in
-    let small : c.from-be-bytes-modulus.result ≤ 65535 = search rules in
+    let small : c.from_be_bytes-modulus.result ≤ 65535 = search rules in
     record {
-      value = grind (arith, nat_tests, no_kind (get_or c.args.bytes.now 1 0) c.from-be-bytes-modulus.result low high small c.in-None.ensures);
+      value = grind (arith, nat_tests, no_kind (get_or c.args.bytes.now 1 0) c.from_be_bytes-modulus.result low high small c.in-None.ensures);
       shorter = tt;
       plain = tt;
     }

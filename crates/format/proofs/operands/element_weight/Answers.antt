@@ -3,8 +3,8 @@ use Rattle.std.proofs.lemmas.Bool.Decides.{nat_tests}
 use Rattle.term.proofs.Cuts.{tail, tail-shorter}
 use Rattle.format.proofs.operands.element_weight.Goals as goal
 
-pub returns-else-not-is-weight : goal.returns-else-not-is-weight
-returns-else-not-is-weight c = record {
+pub returns-else-not-is_weight : goal.returns-else-not-is_weight
+returns-else-not-is_weight c = record {
   value = grind (arith, nat_tests, tail 7 c.args.bytes.now);
   shorter = tail-shorter 7 c.args.bytes.now (lit< tt) (search rules);
   plain = tt;

@@ -3,8 +3,8 @@ use Rattle.std.proofs.lemmas.Bool.Decides.{nat_tests}
 use Rattle.term.proofs.Cuts.{tail, tail-shorter}
 use Rattle.format.proofs.operands.place_weight.Goals as goal
 
-pub returns-else-not-is-weight : goal.returns-else-not-is-weight
-returns-else-not-is-weight c = record {
+pub returns-else-not-is_weight : goal.returns-else-not-is_weight
+returns-else-not-is_weight c = record {
   value = grind (arith, nat_tests, tail 6 c.args.bytes.now);
   shorter = tail-shorter 6 c.args.bytes.now (lit< tt) (search rules);
   plain = tt;

@@ -10,5 +10,5 @@ returns-in-len6-up-3 c = record {
   plain = tt;
 }
 
-pub returns-in-default : goal.returns-in-default
-returns-in-default c = record { value = grind (arith, nat_tests); shorter = tt; plain = tt }
+pub returns-in_default : goal.returns-in_default
+returns-in_default c = record { value = grind (arith, nat_tests); shorter = tt; plain = tt }

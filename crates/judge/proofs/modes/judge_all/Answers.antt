@@ -19,7 +19,7 @@ returns-in-Broken g c =
     )
 
 pub loop-t-preserved : goal.loop-t-preserved
-loop-t-preserved g c = over-more (g.D.WeightDomain.meaning c.args.d.now) c.args.codes.now c.args.net.now c.loop-t.t c.loop-t.seen c.in-Accepted.modes _ c.saturating-add-seen.ensures c.loop-t.invariant c.in-Accepted.ensures
+loop-t-preserved g c = over-more (g.D.WeightDomain.meaning c.args.d.now) c.args.codes.now c.args.net.now c.loop-t.t c.loop-t.seen c.in-Accepted.modes _ c.saturating_add-seen.ensures c.loop-t.invariant c.in-Accepted.ensures
 
 pub returns : goal.returns
 returns g c =

@@ -31,7 +31,7 @@ loop-i-preserved g c =
     elim c.if-guard.branch [
       | then-guard+else-not-relates w ↦ subst (λ (k : ℕ). Turned d c.args.codes.now n t (c.loop-i.i + 1) k) (sym w.seen-is)
           (kept d c.args.codes.now n t c.loop-i.i c.loop-i.seen _ m w.sums-v.result.0 w.sums-v.result.1 c.mode-mode.ensures
-          (sym c.guard.ensures ∙ w.if-guard.true) w.sums-v.ensures.before w.sums-v.ensures.after w.if-not-relates.ensures w.saturating-add-seen.ensures c.loop-i.invariant)
+          (sym c.guard.ensures ∙ w.if-guard.true) w.sums-v.ensures.before w.sums-v.ensures.after w.if-not-relates.ensures w.saturating_add-seen.ensures c.loop-i.invariant)
       | else-guard w ↦ subst (λ (k : ℕ). Turned d c.args.codes.now n t (c.loop-i.i + 1) k) (sym w.seen-is)
           (passed d c.args.codes.now n t c.loop-i.i c.loop-i.seen m c.mode-mode.ensures (sym c.guard.ensures ∙ w.if-guard.false) c.loop-i.invariant)
     ]

@@ -5,7 +5,7 @@ use Rattle.term.proofs.Tallies.{unchanged, after, alike, none_below, one_more}
 use Rattle.term.proofs.bag.add_row.Goals as goal
 
 pub loop-e-init : goal.loop-e-init
-loop-e-init c = unchanged _ _ _ (λ i. (c.type-inv.counts i).fits) (λ i. none_below i _)
+loop-e-init c = unchanged _ _ _ (λ i. (c.type_inv.counts i).fits) (λ i. none_below i _)
 
 pub loop-e-preserved : goal.loop-e-preserved
 loop-e-preserved c =

@@ -24,7 +24,7 @@ returns-in-48-to-51 t c =
     let h : 0 < length bs = search rules in
     let low : 0x30 ≤ get_or bs 0 0 = search rules in
     let high : get_or bs 0 0 ≤ 0x33 = search rules in
-    let is : c.saturating-sub-at.result ≡ place bs ends 0 = omega (arith, c.saturating-sub-at.ensures) in
+    let is : c.saturating_sub-at.result ≡ place bs ends 0 = omega (arith, c.saturating_sub-at.ensures) in
     record { value = ap bad (c.refused.ensures ∙ ap (in_term fault.Deep) is) ∙ too-deep s vars ends want bs d c.if-depth-eq0.true h low high; shorter = tt; passed = tt }
 
 pub returns-in-len1-up : goal.returns-in-len1-up
@@ -36,7 +36,7 @@ returns-in-len1-up t c =
     let d = c.args.depth in
     let bs = c.args.bytes.now in
     let h : 0 < length bs = search rules in
-    let is : c.saturating-sub-at.result ≡ place bs ends 0 = omega (arith, c.saturating-sub-at.ensures) in
+    let is : c.saturating_sub-at.result ≡ place bs ends 0 = omega (arith, c.saturating_sub-at.ensures) in
     record { value = ap bad (c.refused-in-len1-up.ensures ∙ ap (in_term fault.NoCommand) is) ∙ unknown s vars ends want bs d h (λ l u. search rules); shorter = tt; passed = tt }
 
 pub returns-in-48 : goal.returns-in-48
@@ -93,11 +93,11 @@ returns-in-Ok t c =
     let short : length r1 < length (take (length bs - 1) (drop 1 bs)) = c.in-Ok.ensures.shorter in
     let shorter : length (take (length bs - 1) (drop 1 bs)) < length bs = tail-shorter 1 bs (lit< tt) (omega arith) in
     record {
-      value = c.check-bag-in-Ok.ensures.value ∙ ap (λ x. then x (check_bag s vars ends (d - 1) want)) one ∙ sum-bag s vars ends want bs d deep h e;
-      shorter = still-shorter c.check-bag-in-Ok.result r1 bs (omega arith) c.check-bag-in-Ok.ensures.shorter;
-      passed = IfOk-weaker c.check-bag-in-Ok.result _ _
+      value = c.check_bag-in-Ok.ensures.value ∙ ap (λ x. then x (check_bag s vars ends (d - 1) want)) one ∙ sum-bag s vars ends want bs d deep h e;
+      shorter = still-shorter c.check_bag-in-Ok.result r1 bs (omega arith) c.check_bag-in-Ok.ensures.shorter;
+      passed = IfOk-weaker c.check_bag-in-Ok.result _ _
           (λ r p few. passed-sum s vars ends want bs d deep h r1 r.now e (subst (λ (x : List ℕ). PassedBag s vars (d - 1) want x r1) same (c.in-Ok.ensures.passed few)) (p few))
-          c.check-bag-in-Ok.ensures.passed;
+          c.check_bag-in-Ok.ensures.passed;
     }
 
 pub returns-in-Err : goal.returns-in-Err
@@ -127,11 +127,11 @@ returns-in-Ok-flexible t c =
     let deep : 0 < d = search rules in
     let r1 = c.in-Ok-flexible.rest.now in
     record {
-      value = c.check-term-in-Ok-flexible.ensures.value ∙ c.in-Ok-flexible.ensures.value (check_term s vars ends (d - 1)) ∙ flexible-bag s vars ends want bs d deep h e;
-      shorter = still-shorter c.check-term-in-Ok-flexible.result r1 bs c.in-Ok-flexible.ensures.shorter c.check-term-in-Ok-flexible.ensures.shorter;
-      passed = IfOk-weaker c.check-term-in-Ok-flexible.result _ _
+      value = c.check_term-in-Ok-flexible.ensures.value ∙ c.in-Ok-flexible.ensures.value (check_term s vars ends (d - 1)) ∙ flexible-bag s vars ends want bs d deep h e;
+      shorter = still-shorter c.check_term-in-Ok-flexible.result r1 bs c.in-Ok-flexible.ensures.shorter c.check_term-in-Ok-flexible.ensures.shorter;
+      passed = IfOk-weaker c.check_term-in-Ok-flexible.result _ _
           (λ r p few. passed-flexible s vars ends want bs d deep h c.in-Ok-flexible.argument r1 r.now e c.in-Ok-flexible.ensures.found (p few))
-          c.check-term-in-Ok-flexible.ensures.passed;
+          c.check_term-in-Ok-flexible.ensures.passed;
     }
 
 pub returns-in-Err-flexible : goal.returns-in-Err-flexible

@@ -1,4 +1,4 @@
 use Rattle.term.proofs.check.+check_bag.Given as goal
 
-abbrev pub decreases-check-bag : goal.decreases-check-bag
-decreases-check-bag l = l.depth
+abbrev pub decreases-check_bag : goal.decreases-check_bag
+decreases-check_bag l = l.depth

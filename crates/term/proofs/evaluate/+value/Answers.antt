@@ -94,8 +94,8 @@ returns-else-o-eq1 t c =
     rw (at-apply (of c.args.s) c.args.depth bs (omega arith) h e, n0, n1)
     (record { value = c.result-in-34.ensures ∙ ap (λ o. result_of (of c.args.s) o c.value-a-in-34.result.0 c.value-b-in-34.result.0) c.operation-o.ensures ∙ same-two (result_of (of c.args.s) (op_of (of c.args.s) (get_or bs 1 0))) _ _ _ _ q.0 q.1; rest = q.2 })
 
-pub returns-in-default : goal.returns-in-default
-returns-in-default t c =
+pub returns-in_default : goal.returns-in_default
+returns-in_default t c =
     let bs = c.args.bytes.now in
     let a : begins 0x20 1 bs ≡ false = grind (arith, nat_tests) in
     let b : begins 0x21 2 bs ≡ false = grind (arith, nat_tests) in

@@ -51,22 +51,22 @@ returns-in-50 g t c =
     let h : 0 < length bs = search rules in
     let e : get_or bs 0 0 ≡ 0x32 = search rules in
     let r0 = take (length bs - 1) (drop 1 bs) in
-    let r1 = c.weigh-bag-sum.result.1.now in
-    let e1 : r1 ≡ (p (drop 1 bs)).1 = c.weigh-bag-sum.ensures.rest ∙ ap (λ x. (p x).1) (tail 1 bs) in
+    let r1 = c.weigh_bag-sum.result.1.now in
+    let e1 : r1 ≡ (p (drop 1 bs)).1 = c.weigh_bag-sum.ensures.rest ∙ ap (λ x. (p x).1) (tail 1 bs) in
     let a = (p r0).0 in
     let b = (p r1).0 in
     let ea : a ≡ (p (drop 1 bs)).0 = ap (λ x. (p x).0) (tail 1 bs) in
     let eb : b ≡ (p (p (drop 1 bs)).1).0 = ap (λ x. (p x).0) e1 in
     rw (at_sum s c.args.depth bs (omega arith) h e)
     (record {
-      sum = alike-on law c.args.codes.now c.args.place c.args.sum c.weigh-bag.result.0
+      sum = alike-on law c.args.codes.now c.args.place c.args.sum c.weigh_bag.result.0
           (λ i. count s m a i + count s m b i) (λ i. count s m (p (drop 1 bs)).0 i + count s m (p (p (drop 1 bs)).1).0 i)
           (most a + most b) (most (p (drop 1 bs)).0 + most (p (p (drop 1 bs)).1).0)
           (λ i. same_sum _ _ _ _ (ap (λ x. count s m x i) ea) (ap (λ x. count s m x i) eb))
           (let u = ap most ea in let v = ap most eb in omega arith)
-          (after_on law c.args.codes.now c.args.place c.args.sum c.weigh-bag-sum.result.0 c.weigh-bag.result.0 (count s m a) (count s m b) (most a) (most b)
-          c.weigh-bag-sum.ensures.sum c.weigh-bag.ensures.sum);
-      rest = c.weigh-bag.ensures.rest ∙ ap (λ x. (p x).1) e1;
+          (after_on law c.args.codes.now c.args.place c.args.sum c.weigh_bag-sum.result.0 c.weigh_bag.result.0 (count s m a) (count s m b) (most a) (most b)
+          c.weigh_bag-sum.ensures.sum c.weigh_bag.ensures.sum);
+      rest = c.weigh_bag.ensures.rest ∙ ap (λ x. (p x).1) e1;
     })
 
 pub returns-in-51 : goal.returns-in-51
@@ -82,14 +82,14 @@ returns-in-51 g t c =
     let x = value_of s c.args.mode.now (term_at s (c.args.depth - 1) (drop 2 bs)).0 in
     rw (at-flexible s c.args.depth bs (omega arith) h e)
     (record {
-      sum = alike-on law c.args.codes.now c.args.place c.args.sum c.weigh-row.result (copies_in s c.bag_operation.result a) (copies_in s (bag_operation s (get_or bs 1 0)) x) 65025 65025
+      sum = alike-on law c.args.codes.now c.args.place c.args.sum c.weigh_row.result (copies_in s c.bag_operation.result a) (copies_in s (bag_operation s (get_or bs 1 0)) x) 65025 65025
           (λ i. ap (λ o. copies_in s o a i) c.bag_operation.ensures ∙ ap (λ z. copies_in s (bag_operation s (get_or bs 1 0)) z i) q.0)
-          (omega arith) c.weigh-row.ensures;
+          (omega arith) c.weigh_row.ensures;
       rest = q.1;
     })
 
-pub returns-in-default : goal.returns-in-default
-returns-in-default g t c =
+pub returns-in_default : goal.returns-in_default
+returns-in_default g t c =
     let law = g.met.D.WeightDomain.lawful c.args.d.now in
     let bs = c.args.bytes.now in
     rw (at_other (of c.args.s) c.args.depth bs (omega arith) (grind (arith, nat_tests)) (grind (arith, nat_tests)) (grind (arith, nat_tests)) (grind (arith, nat_tests)))

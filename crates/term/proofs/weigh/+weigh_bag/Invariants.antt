@@ -1,4 +1,4 @@
 use Rattle.term.proofs.weigh.+weigh_bag.Given as goal
 
-abbrev pub decreases-weigh-bag : goal.decreases-weigh-bag
-decreases-weigh-bag g l = l.depth
+abbrev pub decreases-weigh_bag : goal.decreases-weigh_bag
+decreases-weigh_bag g l = l.depth

@@ -19,4 +19,4 @@ returns g c =
     weighs-one (g.met.D.WeightDomain.lawful c.args.d.now) c.args.codes.now _ c.weight-weight.result _ _ cell c.args.n
     c.if-cell-codes.false is (place_here c.args.place c.args.element c.args.n)
     (λ i h. place-else c.args.place c.args.element c.args.n i h)
-    (subst (λ (n : ℕ). Added d c.args.sum n c.weight-weight.result c.add-copies.result) c.from.ensures c.add-copies.ensures)
+    (subst (λ (n : ℕ). Added d c.args.sum n c.weight-weight.result c.add_copies.result) c.from.ensures c.add_copies.ensures)

@@ -16,7 +16,7 @@ loop-e-preserved g c =
     let codes = c.args.codes.now in
     let place = c.args.place in
     let row = c.args.o.table + c.args.argument * c.at-size.result in
-    let few : c.at.result < 256 = c.at.type-inv in
+    let few : c.at.result < 256 = c.at.type_inv in
     let table : ℕ → ℕ = λ k. get_or c.args.s.tables.now (row + k) 0 in
     let e = c.loop-e.e in
     let f : ℕ → ℕ = λ i. cond (ltb i e) (table i) 0 in
@@ -33,7 +33,7 @@ returns g c =
     let t = c.args.o.table in
     let tables = c.args.s.tables.now in
     let all : c.loop-e.e ≡ size = omega arith in
-    let small : size < 256 = c.at-size.type-inv in
+    let small : size < 256 = c.at-size.type_inv in
     let is = c.at-size.ensures in
     let f : ℕ → ℕ = λ i. cond (ltb i c.loop-e.e) (get_or tables (t + a * size + i) 0) 0 in
     alike-on (g.met.D.WeightDomain.lawful c.args.d.now) c.args.codes.now c.args.place c.args.sum c.loop-e.sum f (copies_in (of c.args.s) c.args.o a) (255 * c.loop-e.e) 65025

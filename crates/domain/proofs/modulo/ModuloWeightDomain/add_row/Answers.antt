@@ -17,7 +17,7 @@ loop-i-preserved c =
     let weight : c.weight.result ≡ residue_weight k code = simp to_z-of_z at c.weight.ensures in
     let is : w ≡ residue_weight k code = c.from-in-loop-i.ensures ∙ weight in
     let below = weight_holds k code ok.0 in
-    let few = (c.type-inv.counts i).fits in
+    let few = (c.type_inv.counts i).fits in
     let light : w ≤ 65535 = omega (arith, is, below, ok.1) in
     let load : n * w ≤ n * 65535 = mul-le-mul_left n light in
     (residue-next k ok.0 c.args.counts.now c.args.codes.now i n w c.loop-i.row c.from.ensures is c.loop-i.invariant.0, omega (arith, c.from.ensures, c.loop-i.invariant.1))

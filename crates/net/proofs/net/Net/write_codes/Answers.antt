@@ -7,6 +7,6 @@ returns-then-codes-eq-CELLS c =
     let from = 1024 * c.args.claim in
     let many : from + 1024 - from ≡ 1024 = omega arith in
     record {
-      written = λ h l. c.copy-from-slice.ensures.after ∙ ap (λ (k : ℕ). take k (drop from c.as-slice-all.result.now)) many ∙ ap (λ xs. take 1024 (drop from xs)) c.as-slice-all.ensures.value;
+      written = λ h l. c.copy_from_slice.ensures.after ∙ ap (λ (k : ℕ). take k (drop from c.as_slice-all.result.now)) many ∙ ap (λ xs. take 1024 (drop from xs)) c.as_slice-all.ensures.value;
       none = λ h. let z : ⊥ = omega (arith, c.len.ensures) in absurd z;
     }
