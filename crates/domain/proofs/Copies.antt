@@ -1,5 +1,5 @@
 -- What the laws of a domain give of copies and of sums. Assumes nothing.
-use Rattle.std.proofs.Common.{◌≡◌, ℕ, zero, suc, ◌+◌, ◌*◌, ◌<◌, ◌≤◌, ◌⊎◌, ℤ, sym, refl, ap, ◌∙◌, subst, inl, inr, ⊎_elim, suc-add, mul-le-mul_left, zero-add, arith}
+use Rattle.std.proofs.Common.{◌≡◌, ℕ, zero, suc, ◌+◌, ◌*◌, ◌<◌, ◌≤◌, ◌⊎◌, ℤ, sym, refl, ap, ◌∙◌, subst, ⊎_elim, suc-add, mul-le-mul_left, zero-add, arith}
 use Rattle.domain.specs.Meaning.{Added, CopiesCommute, CopiesSplit, Grown, Laws, Meaning, SumsRelate, copies, largest_sum, largest_weight}
 use Rattle.domain.specs.Measure.{PlainLaws}
 

@@ -1,11 +1,11 @@
 -- The largest number of copies, in whole numbers and in truth values. Assumes nothing.
-use Rattle.std.proofs.Common.{◌≡◌, ℕ, zero, suc, ◌+◌, ◌-◌, ◌*◌, ◌/◌, ◌<◌, ◌≤◌, Bool, true, false, cond, ◌||◌, eqb, ℤ, pos, negsuc, ◌+ℤ◌, ◌*ℤ◌, ◌≤ℤ◌, sym, refl, ap, ◌∙◌, subst, div-lt_iff_lt-mul, div-mul-le_self, arith, w64, SFits, to_z, of_z}
+use Rattle.std.proofs.Common.{◌≡◌, ℕ, zero, suc, ◌-◌, ◌*◌, ◌/◌, ◌<◌, ◌≤◌, Bool, true, false, eqb, ℤ, pos, negsuc, ◌+ℤ◌, ◌≤ℤ◌, refl, ap, ◌∙◌, subst, div-lt_iff_lt-mul, div-mul-le_self, arith, w64, SFits, to_z, of_z}
 use Rattle.std.proofs.lemmas.Int.{ints, to_z-of_z}
 use Rattle.domain.specs.Meaning.{copies}
 use Rattle.domain.specs.Domains.{siphon, whole}
 use Rattle.domain.specs.Measure.{Largest, Reaches, whole_largest, truth_largest}
 use Rattle.domain.specs.declared.measuring.Most.{Most}
-use Rattle.domain.specs.declared.measuring.Most.TheVariants.{At, Unbounded}
+use Rattle.domain.specs.declared.measuring.Most.TheVariants.{At}
 use Rattle.domain.specs.Truths.{copies_false, copies_truth}
 use Rattle.domain.specs.Wholes.{copies_whole}
 

@@ -1,5 +1,5 @@
 -- The kind of a number is the one that the number names.
-use Rattle.std.proofs.Common.{◌≡◌, ℕ, ◌≤◌, Bool, true, false, leb, refl, ap, arith, le-leb, leb-true}
+use Rattle.std.proofs.Common.{◌≡◌, ℕ, Bool, true, false, leb, refl, arith, le-leb, leb-true}
 use native.Mathlib.Bridge.{le_prop}
 use Rattle.domain.specs.Kinds.{Numbered, kind_of, modulo_by}
 use Rattle.domain.specs.declared.modulo.Modulo.{Modulo}

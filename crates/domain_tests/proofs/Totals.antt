@@ -1,5 +1,5 @@
 -- One weight more, from the laws alone. Assumes nothing.
-use Rattle.std.proofs.Common.{◌≡◌, ℕ, zero, suc, ◌+◌, ◌*◌, ◌<◌, ◌≤◌, List, get_or, ℤ, pos, ap, ◌∙◌, add-one, arith}
+use Rattle.std.proofs.Common.{◌≡◌, ℕ, ◌+◌, ◌*◌, ◌<◌, ◌≤◌, List, get_or, ℤ, pos, ap, ◌∙◌, add-one, arith}
 use Rattle.domain.specs.Meaning.{Grown, Laws, Meaning, copies, largest_weight}
 use Rattle.domain.proofs.Copies.{copies-one}
 use Rattle.domain_tests.specs.Total.{total_to}

@@ -1,5 +1,5 @@
 -- The kinds of claims and the moduli that fit them.
-use Rattle.std.proofs.Common.{◌≡◌, ℕ, zero, suc, ◌<◌, ◌≤◌, true, false, refl, arith, ne_eqb, le-leb}
+use Rattle.std.proofs.Common.{◌≡◌, ℕ, zero, suc, ◌≤◌, true, false, refl, arith, ne_eqb, le-leb}
 use borrow.Author.Tests.{lt-leb}
 use Rattle.domain.specs.Kinds.{Numbered}
 use Rattle.domain.specs.declared.kind.Kind.{Kind}

@@ -1,9 +1,9 @@
 -- A term or a bag is read from its own bytes alone: what follows it makes no difference.
-use Rattle.std.proofs.Common.{◌≡◌, ℕ, zero, suc, ◌+◌, ◌-◌, ◌<◌, ◌≤◌, Bool, true, false, cond, ◌&&◌, eqb, ltb, List, [], length, get_or, take, drop, sym, refl, ap, ◌∙◌, zero-add, arith, length-drop, length-take, get_or-take, drop-drop, ltb-true, le-ltb, lt-ltb}
+use Rattle.std.proofs.Common.{◌≡◌, ℕ, zero, suc, ◌+◌, ◌-◌, ◌<◌, ◌≤◌, Bool, true, false, cond, ◌&&◌, eqb, ltb, List, [], length, get_or, take, drop, sym, refl, ap, ◌∙◌, zero-add, arith, length-drop, length-take, get_or-take, drop-drop, ltb-true}
 use Rattle.std.proofs.lemmas.List.{drop-take}
 use Rattle.std.proofs.lemmas.Bool.Decides.{nat_tests}
-use Rattle.term.specs.Meaning.{Bag, Sig, Term, apply, bag_sorted, both, constant, empty, equal, flexible, negate, operation, single, sorted, sum, variable}
-use Rattle.term.specs.Prefix.{Read, ReadBag, applied, bag_at, bag_front, begins, front, missing, one, term_at, two}
+use Rattle.term.specs.Meaning.{Sig, apply, bag_sorted, both, constant, empty, equal, flexible, negate, operation, single, sorted, sum, variable}
+use Rattle.term.specs.Prefix.{Read, ReadBag, applied, bag_at, bag_front, begins, front, missing, term_at, two}
 use Rattle.term.specs.Shape.{Passed, PassedBag}
 use Rattle.format.specs.Format.{front_of}
 

@@ -1,5 +1,5 @@
 -- What a verdict says of every marking and of every run.
-use Rattle.std.proofs.Common.{◌≡◌, ℕ, ◌+◌, ◌-◌, ◌<◌, ◌≤◌, Bool, true, List, [], ◌∷◌, length, ℤ, vec_len, sym, refl, ap, ◌∙◌, subst, true≢false, arith}
+use Rattle.std.proofs.Common.{◌≡◌, ℕ, ◌+◌, ◌-◌, ◌<◌, ◌≤◌, List, [], ◌∷◌, length, ℤ, vec_len, sym, refl, ap, ◌∙◌, subst, true≢false, arith}
 use Rattle.domain.specs.Meaning.{Laws, Meaning}
 use Rattle.term.specs.Worth.{Marking, value_of}
 use Rattle.term.proofs.Sums.{value-add, value-holds, value_same}
@@ -7,7 +7,7 @@ use Rattle.net.specs.declared.net.Net.{Net}
 use Rattle.net.specs.Nets.{Mode, given, guard_holds, taken, transition}
 use Rattle.net.specs.Runs.{Fires, Run}
 use Rattle.judge.specs.Judged.{First, Judged, Kept, KeptAll, after, before, mode, modes_of}
-use Rattle.judge.specs.Theorem.{Breaks, BreaksAt, Exactly, Keeps, Right}
+use Rattle.judge.specs.Theorem.{BreaksAt, Exactly, Keeps, Right}
 use Rattle.judge.specs.declared.verdict.Verdict.{Verdict}
 use Rattle.judge.specs.declared.verdict.Verdict.TheVariants.{Accepted, Broken}
 use Rattle.judge.proofs.Orders.{is-mode, numbered}

@@ -1,5 +1,5 @@
 -- Every mode has a number, and every number below the number of modes is one of a mode.
-use Rattle.std.proofs.Common.{◌≡◌, ℕ, zero, suc, ◌+◌, ◌*◌, ◌/◌, ◌%◌, ◌<◌, ◌≤◌, false, cond, eqb, List, [], ◌∷◌, length, get_or, sym, refl, ap, ◌∙◌, subst, mod-lt, mod-eq_of_lt, mul_assoc, arith, ne_eqb}
+use Rattle.std.proofs.Common.{◌≡◌, ℕ, zero, suc, ◌+◌, ◌*◌, ◌/◌, ◌%◌, ◌<◌, List, [], ◌∷◌, length, get_or, ap, ◌∙◌, subst, mod-lt, mod-eq_of_lt, mul_assoc, arith, ne_eqb}
 use lib.Arith.{digits_div, digits_lt, digits_mod}
 use Rattle.format.specs.Format.{mode_count}
 use Rattle.net.specs.Nets.{Mode, digit, mode_of}

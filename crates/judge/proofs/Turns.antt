@@ -1,5 +1,5 @@
 -- One mode more, and one transition more.
-use Rattle.std.proofs.Common.{◌≡◌, ℕ, zero, suc, ◌+◌, ◌-◌, ◌^◌, ◌<◌, ◌≤◌, min, Bool, true, false, cond, List, ℤ, sym, refl, ap, ◌∙◌, subst, true≢false, add-one, arith, below_more}
+use Rattle.std.proofs.Common.{◌≡◌, ℕ, ◌+◌, ◌-◌, ◌^◌, min, Bool, true, false, cond, List, ℤ, sym, refl, ap, ◌∙◌, true≢false, add-one, arith, below_more}
 use Rattle.domain.specs.Meaning.{Meaning}
 use Rattle.net.specs.declared.net.Net.{Net}
 use Rattle.net.specs.Nets.{guard_holds}

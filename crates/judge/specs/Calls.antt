@@ -1,5 +1,5 @@
 -- What a caller's memory holds after a call of the judge, and why a call is refused.
-use Rattle.std.specs.Prelude.{◌≡◌, ℕ, ◌<◌, ◌≤◌, Bool, true, List, length, replicate, ℤ, pos, Ok, Err, vec_len, Result, slice_index_or}
+use Rattle.std.specs.Prelude.{◌≡◌, ℕ, ◌<◌, ◌≤◌, true, List, length, replicate, ℤ, pos, Ok, Err, vec_len, Result, slice_index_or}
 use Rattle.domain.specs.Meaning.{Meaning}
 use Rattle.term.specs.declared.fault.Fault.{Fault}
 use Rattle.term.specs.declared.fault.Fault.TheVariants as fault

@@ -1,5 +1,5 @@
 -- What judging answers: the verdict, the first mode that breaks a claim, and the number of modes.
-use Rattle.std.specs.Prelude.{◌≡◌, ℕ, zero, suc, ◌+◌, ◌-◌, ◌^◌, ◌<◌, ◌≤◌, min, Bool, true, false, cond, List, length, ℤ, vec_len}
+use Rattle.std.specs.Prelude.{◌≡◌, ℕ, zero, suc, ◌+◌, ◌-◌, ◌^◌, ◌<◌, min, true, cond, List, ℤ, vec_len}
 use Rattle.domain.specs.Meaning.{Meaning}
 use Rattle.format.specs.Format.{mode_count}
 use Rattle.term.specs.Worth.{value_of}

@@ -5,7 +5,6 @@ use Rattle.term.specs.Worth.{Marking, value_of}
 use Rattle.net.specs.declared.net.Net.{Net}
 use Rattle.net.specs.Nets.{taken}
 use Rattle.net.specs.Runs.{Fires, Run}
-use Rattle.judge.specs.Judged.{Judged}
 use Rattle.judge.specs.declared.verdict.Verdict.{Verdict}
 use Rattle.judge.specs.declared.verdict.Verdict.TheVariants.{Accepted, Broken}
 

@@ -1,5 +1,5 @@
 -- A transition that the net has not.
-use Rattle.std.proofs.Common.{◌≡◌, ℕ, ◌≤◌, vec_items, vec_len, sym, ap, ◌∙◌, arith}
+use Rattle.std.proofs.Common.{◌≡◌, ℕ, ◌≤◌, vec_items, vec_len, arith}
 use Rattle.std.proofs.lemmas.List.{get_or_past}
 use Rattle.net.specs.declared.net.Net.{Net}
 use Rattle.net.specs.Nets.{no_transition, transition}

@@ -1,10 +1,9 @@
 -- The bags of a side are small.
-use Rattle.std.proofs.Common.{◌≡◌, ℕ, zero, suc, ◌+◌, ◌-◌, ◌*◌, ◌^◌, ◌<◌, ◌≤◌, min, Bool, true, false, cond, ◌&&◌, leb, List, [], ◌∷◌, length, take, drop, ℤ, vec_items, vec_len, sym, refl, ap, ◌∙◌, subst, arith}
+use Rattle.std.proofs.Common.{◌≡◌, ℕ, zero, suc, ◌-◌, ◌*◌, ◌≤◌, Bool, true, false, cond, ◌&&◌, leb, List, [], ◌∷◌, length, take, drop, ℤ, vec_items, ◌∙◌, arith}
 use Rattle.std.proofs.lemmas.List.{length-take}
 use Rattle.format.specs.declared.command.Direction.{Direction}
 use Rattle.domain.specs.Meaning.{Laws, Meaning}
-use Rattle.term.specs.Prefix.{bag_at}
-use Rattle.term.specs.Worth.{Marking, Weighed, Weighs, most, value_of}
+use Rattle.term.specs.Worth.{Marking, Weighs, most, value_of}
 use Rattle.term.proofs.Loads.{few-tokens}
 use Rattle.term.proofs.Sums.{value-holds}
 use Rattle.net.specs.declared.net.Net.{Net}

@@ -1,5 +1,5 @@
 -- One arc more.
-use Rattle.std.proofs.Common.{◌≡◌, ℕ, ◌+◌, ◌≤◌, Bool, true, false, cond, List, [], ◌∷◌, ◌++◌, ap, arith}
+use Rattle.std.proofs.Common.{◌≡◌, ◌+◌, ◌≤◌, Bool, true, false, cond, List, [], ◌∷◌, ◌++◌, ap, arith}
 use Rattle.net.specs.declared.parts.Arc.{Arc}
 use Rattle.net.specs.Spans.{spans}
 

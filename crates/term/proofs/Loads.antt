@@ -1,8 +1,8 @@
 -- A bag has few tokens for its bytes, whatever the bytes are.
-use Rattle.std.proofs.Common.{◌≡◌, ℕ, zero, suc, ◌+◌, ◌-◌, ◌*◌, ◌<◌, ◌≤◌, Bool, true, false, cond, ◌&&◌, eqb, ltb, List, length, get_or, drop, refl, arith, length-drop}
+use Rattle.std.proofs.Common.{◌≡◌, ℕ, zero, suc, ◌+◌, ◌*◌, ◌<◌, ◌≤◌, Bool, true, false, cond, eqb, List, length, get_or, drop, refl, arith, length-drop}
 use Rattle.std.proofs.lemmas.Bool.Decides.{nat_tests}
-use Rattle.term.specs.Meaning.{Sig, apply, both, constant, empty, equal, flexible, negate, operation, single, sum, variable}
-use Rattle.term.specs.Prefix.{Read, ReadBag, applied, bag_at, begins, missing, one, term_at, two}
+use Rattle.term.specs.Meaning.{Sig, operation}
+use Rattle.term.specs.Prefix.{Read, ReadBag, bag_at, begins, term_at}
 use Rattle.term.specs.Worth.{most}
 
 -- whichever way a choice goes

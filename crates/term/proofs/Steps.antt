@@ -1,5 +1,5 @@
 -- One turn of the check of a term. Assumes nothing.
-use Rattle.std.proofs.Common.{◌≡◌, ℕ, zero, suc, ◌-◌, ◌<◌, Bool, true, false, cond, ◌&&◌, eqb, ltb, leb, List, length, get_or, IfOk, Result, sym, refl, ap, ◌∙◌, arith, Bor, lt-ltb, ne_eqb}
+use Rattle.std.proofs.Common.{◌≡◌, ℕ, zero, suc, ◌-◌, ◌<◌, Bool, true, false, cond, ◌&&◌, eqb, ltb, leb, List, length, get_or, IfOk, Result, sym, ap, ◌∙◌, arith, Bor, lt-ltb, ne_eqb}
 use Rattle.std.proofs.lemmas.Result.{IfOk-weaker}
 use Rattle.term.specs.Meaning.{Sig}
 use Rattle.term.specs.Check.{Front, front, none, Checked, done, bad, head_at, check_term, parts, then, in_term, place}

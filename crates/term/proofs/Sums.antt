@@ -1,9 +1,9 @@
 -- What the laws of a domain give of the value of a marking.
-use Rattle.std.proofs.Common.{◌≡◌, ℕ, zero, suc, ◌+◌, ◌-◌, ◌*◌, ◌^◌, ◌<◌, ◌≤◌, Bool, true, false, cond, eqb, ltb, leb, ◌⊎◌, List, length, get_or, ℤ, pos, sym, refl, ap, ◌∙◌, subst, inl, inr, ⊎_elim, mul-le-mul, suc-add, zero-add, arith}
+use Rattle.std.proofs.Common.{◌≡◌, ℕ, zero, suc, ◌+◌, ◌-◌, ◌*◌, ◌<◌, ◌≤◌, Bool, true, false, cond, eqb, leb, ◌⊎◌, List, length, get_or, ℤ, pos, sym, refl, ap, ◌∙◌, subst, ⊎_elim, mul-le-mul, arith}
 use Rattle.std.proofs.lemmas.Bool.Decides.{nat_tests}
 use Rattle.domain.specs.Meaning.{Added, Laws, Meaning, copies}
 use Rattle.domain.proofs.Copies.{copies-add, copies-holds, copies-size, exchange}
-use Rattle.term.specs.Worth.{Marking, Weighed, Weighs, on_place, value_of, value_to, weight_of}
+use Rattle.term.specs.Worth.{Marking, Weighs, on_place, value_of, value_to, weight_of}
 
 module _ {V : Type 0} {d : Meaning V} (l : Laws d) where
   -- zero on the right is neutral too

@@ -1,8 +1,8 @@
 -- One turn of reading a term or a bag, by its code.
-use Rattle.std.proofs.Common.{◌≡◌, ℕ, zero, suc, ◌-◌, ◌<◌, ◌≤◌, Bool, true, false, cond, ◌&&◌, eqb, ltb, List, length, get_or, drop, sym, refl, ap, ◌∙◌, arith}
+use Rattle.std.proofs.Common.{◌≡◌, ℕ, zero, suc, ◌-◌, ◌<◌, true, false, List, length, get_or, drop, refl, ap, ◌∙◌, arith}
 use Rattle.std.proofs.lemmas.Bool.Decides.{nat_tests}
-use Rattle.term.specs.Meaning.{Sig, Term, variable, constant, apply, equal, negate, both, Bag, empty, single, sum, flexible, operation}
-use Rattle.term.specs.Prefix.{begins, missing, Read, one, two, applied, front, term_at, ReadBag, bag_front, bag_at}
+use Rattle.term.specs.Meaning.{Sig, Term, variable, constant, equal, negate, both, empty, single, sum, flexible, operation}
+use Rattle.term.specs.Prefix.{begins, missing, Read, one, two, applied, front, term_at, bag_front, bag_at}
 
 pub is : (k n : ℕ) (bs : List ℕ) → n < length bs → get_or bs 0 0 ≡ k → begins k n bs ≡ true
 is k n bs h e = grind (arith, nat_tests)

@@ -1,6 +1,6 @@
 -- What a front that passed the check says of the term that it begins.
-use Rattle.std.specs.Prelude.{◌≡◌, ℕ, ◌<◌, ◌≤◌, Bool, true, List, length, drop, slice_index, slice_index_or}
-use Rattle.term.specs.Meaning.{Sig, Bag, Term, bag_operation, bag_sorted, operation, sorted}
+use Rattle.std.specs.Prelude.{◌≡◌, ℕ, ◌<◌, ◌≤◌, true, List, length, drop, slice_index, slice_index_or}
+use Rattle.term.specs.Meaning.{Sig, Term, bag_operation, bag_sorted, operation, sorted}
 use Rattle.term.specs.Prefix.{Read, bag_at, front, one, term_at, two}
 
 -- no operation has more than two arguments

@@ -1,4 +1,4 @@
-use Rattle.std.proofs.Common.{◌≡◌, ℕ, ◌+◌, ◌<◌, ◌≤◌, vec_len, sym, refl, ap, ◌∙◌, subst, arith, below_none}
+use Rattle.std.proofs.Common.{◌≡◌, ℕ, vec_len, sym, subst, arith, below_none}
 use Rattle.judge.specs.Judged.{First, KeptAll}
 use Rattle.judge.proofs.Turns.{Over, number-none, over-more}
 use Rattle.judge.proofs.modes.judge_all.Goals as goal

@@ -1,4 +1,4 @@
-use Rattle.std.proofs.Common.{◌≡◌, ℕ, List, length, replicate, sym, refl, ap, ◌∙◌, subst}
+use Rattle.std.proofs.Common.{◌≡◌, ℕ, List, replicate, ap, ◌∙◌, subst}
 use Rattle.net.specs.Nets.{Tallied, given, taken}
 use Rattle.judge.specs.Calls.{none}
 use Rattle.judge.specs.Judged.{Judged}

@@ -1,4 +1,4 @@
-use Rattle.std.proofs.Common.{◌≡◌, ℕ, ◌+◌, ◌<◌, ◌≤◌, sym, refl, ap, ◌∙◌, subst, arith, rules, below_none}
+use Rattle.std.proofs.Common.{◌≡◌, ℕ, ◌+◌, sym, refl, ◌∙◌, subst, arith, below_none}
 use Rattle.judge.specs.Judged.{modes_of}
 use Rattle.judge.proofs.Turns.{Turned, firing-none, kept, passed}
 use Rattle.judge.proofs.modes.judge_modes.Goals as goal

@@ -1,6 +1,4 @@
-use Rattle.std.proofs.Common.{◌≡◌, ℕ, ◌+◌, ◌*◌, ◌<◌, ◌≤◌, Bool, true, false, cond, eqb, ltb, length, get_or, sym, refl, ap, ◌∙◌, add_assoc, arith, rules}
-use Rattle.std.proofs.lemmas.Bool.Decides.{nat_tests}
-use Rattle.term.specs.Meaning.{copies_in}
+use Rattle.std.proofs.Common.{◌≡◌, ◌+◌, ◌*◌, cond, ltb, get_or, ap, ◌∙◌, add_assoc, arith}
 use Rattle.term.proofs.Tallies.{unchanged, after, alike, none_below, one_more}
 use Rattle.term.proofs.bag.add_row.Goals as goal
 

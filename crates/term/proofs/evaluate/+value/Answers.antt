@@ -1,7 +1,7 @@
-use Rattle.std.proofs.Common.{◌≡◌, ℕ, ◌-◌, ◌<◌, true, false, cond, ◌&&◌, eqb, List, length, get_or, drop, sym, refl, ap, ◌∙◌, arith, rules, eq-eqb, ne_eqb}
+use Rattle.std.proofs.Common.{◌≡◌, ℕ, ◌-◌, ◌<◌, true, false, ◌&&◌, eqb, length, get_or, drop, sym, refl, ap, ◌∙◌, arith, rules, eq-eqb, ne_eqb}
 use Rattle.term.specs.Meaning.{of, value as value_of, result as result_of, truth, operation as op_of}
 use Rattle.std.proofs.lemmas.Bool.Decides.{nat_tests}
-use Rattle.term.specs.Prefix.{begins, term_at, Read}
+use Rattle.term.specs.Prefix.{begins, term_at}
 use Rattle.term.proofs.Cuts.{tail}
 use Rattle.term.proofs.Turns.{none, turn, at-variable, at_constant, at-apply, at-equal, at-negate, at_both, first_part, both-parts}
 use Rattle.term.proofs.evaluate.+value.Goals as goal

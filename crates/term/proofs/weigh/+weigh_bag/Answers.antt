@@ -1,7 +1,7 @@
-use Rattle.std.proofs.Common.{◌≡◌, ℕ, ◌+◌, ◌-◌, ◌*◌, ◌<◌, true, false, cond, ◌&&◌, eqb, List, length, get_or, take, drop, sym, refl, ap, ◌∙◌, arith, rules}
+use Rattle.std.proofs.Common.{◌≡◌, ◌+◌, ◌-◌, ◌<◌, cond, eqb, length, get_or, take, drop, refl, ap, ◌∙◌, arith, rules}
 use Rattle.std.proofs.lemmas.Bool.Decides.{nat_tests}
 use Rattle.term.specs.Meaning.{of, value as value_of, count, bag_operation, copies_in}
-use Rattle.term.specs.Prefix.{begins, term_at, bag_at}
+use Rattle.term.specs.Prefix.{term_at, bag_at}
 use Rattle.term.specs.Worth.{most}
 use Rattle.term.proofs.Cuts.{tail}
 use Rattle.term.proofs.Sums.{after_on, alike-on, nothing-on}

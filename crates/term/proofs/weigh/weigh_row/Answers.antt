@@ -1,4 +1,4 @@
-use Rattle.std.proofs.Common.{◌≡◌, ℕ, ◌+◌, ◌*◌, ◌<◌, ◌≤◌, cond, eqb, ltb, get_or, sym, refl, ap, ◌∙◌, add_assoc, arith, rules}
+use Rattle.std.proofs.Common.{◌≡◌, ℕ, ◌+◌, ◌*◌, ◌<◌, cond, eqb, ltb, get_or, ap, ◌∙◌, add_assoc, arith}
 use Rattle.term.specs.Meaning.{of, copies_in}
 use Rattle.term.proofs.Sums.{after_on, alike-on, nothing-on}
 use Rattle.term.proofs.Tallies.{none_below, one_more}

@@ -1,7 +1,6 @@
 use Rattle.std.proofs.Common.{◌≡◌, ℕ, ◌+◌, ◌-◌, ◌≤◌, length, is_ok, vec_items, vec_len, arith, rules}
 use Rattle.format.specs.declared.command.Direction.{Direction}
 use Rattle.net.specs.declared.parts.Arc.{Arc}
-use Rattle.net.specs.Spans.{spans}
 use Rattle.net.proofs.Spanned.{pushed}
 use Rattle.net.proofs.net.Net.add_arc.Goals as goal
 

@@ -1,4 +1,4 @@
-use Rattle.std.proofs.Common.{◌≡◌, ℕ, ◌+◌, ◌<◌, ◌≤◌, Bool, true, false, cond, List, length, get_or, take, sym, refl, ap, ◌∙◌, subst, arith, take_all}
+use Rattle.std.proofs.Common.{◌≡◌, ℕ, ◌+◌, cond, List, get_or, take, sym, refl, ap, ◌∙◌, subst, arith, take_all}
 use Rattle.term.specs.Meaning.{Sig, count, of}
 use Rattle.term.specs.Prefix.{bag_at}
 use Rattle.term.specs.Worth.{on_place}

@@ -1,4 +1,4 @@
-use Rattle.std.proofs.Common.{◌≡◌, true, cond, eqb, drop, vec_items, sym, ap, arith}
+use Rattle.std.proofs.Common.{true, cond, eqb, drop, vec_items, sym, ap, arith}
 use Rattle.term.specs.Meaning.{value}
 use Rattle.term.specs.Prefix.{term_at}
 use Rattle.net.specs.Nets.{sig}

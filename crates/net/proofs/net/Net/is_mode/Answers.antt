@@ -1,6 +1,5 @@
-use Rattle.std.proofs.Common.{◌≡◌, ℕ, ◌<◌, false, ltb, List, get_or, sym, ap, subst, arith}
+use Rattle.std.proofs.Common.{◌≡◌, ℕ, ◌<◌, false, ltb, List, get_or, ap, subst, arith}
 use Rattle.std.proofs.lemmas.Bool.Decides.{nat_tests}
-use Rattle.net.specs.Nets.{Mode, transition}
 use Rattle.net.proofs.Absent.{absent}
 use Rattle.net.proofs.net.Net.is_mode.Goals as goal
 
