@@ -1,7 +1,6 @@
 #!/usr/bin/env python3
-"""Respells the repository's own words for contracts, once, after port.py: snake case for values, fields and
-constructors of specs/, camel case for facts and types, nothing else. Lemmas that stand in proofs/ alone keep
-the dash that joins the parts of a lemma's name; so do goals, whose names come from the code.
+"""Respells the repository's own words for contracts and proofs, once, after port.py: snake case for values, fields,
+constructors and lemmas, camel case for facts and types. Goals keep their dashes: their names come from the code.
 
 usage: tools/respell.py [--list]     at the top of the repository; --list only prints old and new name
 
@@ -19,7 +18,13 @@ SIGNATURE = re.compile(
 )
 EDGE = r"[\w'\-+·ℤℕ]"
 # words that hold a name of the library which has another one today, and names that `ghost use .. as` gives
-APART = {"op-of": "op_of", "result-of": "result_of", "natAbs-neg": "unsigned_abs_neg", "natAbs-times": "unsigned_abs_times"}
+APART = {
+    "natAbs-neg": "unsigned_abs_neg",
+    "natAbs-times": "unsigned_abs_times",
+    "op-of": "op_of",
+    "result-of": "result_of",
+    "written-++": "written_append",
+}
 
 
 def files(pattern):
@@ -27,11 +32,11 @@ def files(pattern):
 
 
 def words(path):
-    """The words that a file of definitions defines."""
+    """The words that a file defines: definitions and lemmas, and no answer to a goal."""
     with open(path, encoding="utf-8") as text:
         for line in text:
             found = SIGNATURE.match(line.rstrip("\n"))
-            if found and not line.lstrip().startswith(("use ", "--", "let ")):
+            if found and not line.lstrip().startswith(("use ", "--", "let ")) and not found[4].startswith("goal."):
                 yield found[2]
 
 
@@ -45,7 +50,8 @@ def respelled(word):
 
 
 def table():
-    old = {w for path in files("specs/**/*.antt") for w in words(path) if "-" in w and re.fullmatch(r"[A-Za-z][\w-]*", w)}
+    defining = files("specs/**/*.antt") + files("proofs/**/*.antt")
+    old = {w for path in defining for w in words(path) if "-" in w and re.fullmatch(r"[A-Za-z][\w-]*", w)}
     return {w: respelled(w) for w in sorted(old | set(APART))}
 
 
@@ -82,7 +88,7 @@ def main():
             if not here.search(now):
                 continue
             here_now = re.sub(r"^use [\w.+-]+", "use ", was, flags=re.M)  # a path names folders, not words
-            if path.endswith(".antt") and re.search(rf"(?<!{EDGE}){re.escape(n)}(?!{EDGE})", here_now):
+            if path.endswith(".antt") and re.search(rf"(?<!{EDGE})(?<!\.){re.escape(n)}(?!{EDGE})", here_now):
                 clash.append(f"{path}: {w} and {n} fall together")
             now = here.sub(n, now)
         if now != was:

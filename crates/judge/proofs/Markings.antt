@@ -2,7 +2,7 @@
 use Rattle.std.proofs.Common.{◌≡◌, ℕ, ◌+◌, ◌-◌, ◌<◌, ◌≤◌, List, [], ◌∷◌, length, ℤ, vec_len, sym, refl, ap, ◌∙◌, subst, true≢false, arith}
 use Rattle.domain.specs.Meaning.{Laws, Meaning}
 use Rattle.term.specs.Worth.{Marking, value_of}
-use Rattle.term.proofs.Sums.{value-add, value-holds, value_same}
+use Rattle.term.proofs.Sums.{value_add, value_holds, value_same}
 use Rattle.net.specs.declared.net.Net.{Net}
 use Rattle.net.specs.Nets.{Mode, given, guard_holds, taken, transition}
 use Rattle.net.specs.Runs.{Fires, Run}
@@ -10,7 +10,7 @@ use Rattle.judge.specs.Judged.{First, Judged, Kept, KeptAll, after, before, mode
 use Rattle.judge.specs.Theorem.{BreaksAt, Exactly, Keeps, Right}
 use Rattle.judge.specs.declared.verdict.Verdict.{Verdict}
 use Rattle.judge.specs.declared.verdict.Verdict.TheVariants.{Accepted, Broken}
-use Rattle.judge.proofs.Orders.{is-mode, numbered}
+use Rattle.judge.proofs.Orders.{is_mode, numbered}
 
 module _ {V : Type 0} {d : Meaning V} (l : Laws d) (codes : List ℤ) (cells : length codes ≡ 1024) (n : Net) where
   abbrev value : Marking → V
@@ -22,30 +22,30 @@ module _ {V : Type 0} {d : Meaning V} (l : Laws d) (codes : List ℤ) (cells : l
       let k = length codes in
       let rest : Marking = λ c. a c - tm c in
       let was : value a ≡ d.plus (value rest) (value tm)
-      = value_same l codes a (λ c. rest c + tm c) k (λ c h. let e = enough c (omega arith) in omega arith) ∙ value-add l codes rest tm k in
-      let is : value b ≡ d.plus (value rest) (value tp) = value_same l codes b (λ c. rest c + tp c) k (λ c h. new c (omega arith)) ∙ value-add l codes rest tp k in
-      rw (was, is) (l.rel_plus (value rest) (value tm) (value tp) (value-holds l codes rest k) (value-holds l codes tm k) (value-holds l codes tp k) r)
+      = value_same l codes a (λ c. rest c + tm c) k (λ c h. let e = enough c (omega arith) in omega arith) ∙ value_add l codes rest tm k in
+      let is : value b ≡ d.plus (value rest) (value tp) = value_same l codes b (λ c. rest c + tp c) k (λ c h. new c (omega arith)) ∙ value_add l codes rest tp k in
+      rw (was, is) (l.rel_plus (value rest) (value tm) (value tp) (value_holds l codes rest k) (value_holds l codes tm k) (value_holds l codes tp k) r)
 
   -- a mode of a transition that was kept
-  mode-kept : (t : ℕ) (m : List ℕ) (a b : Marking) → Kept d codes n t (modes_of n t) → Fires n t m a b → d.rel (before d codes n t m) (after d codes n t m)
-  mode-kept t m a b k f =
+  mode_kept : (t : ℕ) (m : List ℕ) (a b : Marking) → Kept d codes n t (modes_of n t) → Fires n t m a b → d.rel (before d codes n t m) (after d codes n t m)
+  mode_kept t m a b k f =
       let i = numbered (transition n t).sizes m f.four f.mode in
       let q : m ≡ mode n t i.0 = i.2 in
       subst (λ (x : List ℕ). d.rel (before d codes n t x) (after d codes n t x)) (sym q) (k i.0 i.1 (ap (guard_holds n t) (sym q) ∙ f.guard))
 
-  fires-kept : (t : ℕ) (m : List ℕ) (a b : Marking) → KeptAll d codes n (vec_len n.transitions) → Fires n t m a b → d.rel (value a) (value b)
-  fires-kept t m a b kept f = simulates a b (taken n t m) (given n t m) f.enough f.new (mode-kept t m a b (kept t f.there) f)
+  fires_kept : (t : ℕ) (m : List ℕ) (a b : Marking) → KeptAll d codes n (vec_len n.transitions) → Fires n t m a b → d.rel (value a) (value b)
+  fires_kept t m a b kept f = simulates a b (taken n t m) (given n t m) f.enough f.new (mode_kept t m a b (kept t f.there) f)
 
-  run-kept : (a b : Marking) (fs : List (ℕ × List ℕ)) → KeptAll d codes n (vec_len n.transitions) → Run n a fs b → d.rel (value a) (value b)
-  run-kept a b [] kept r =
-      subst (d.rel (value a)) (value_same l codes a b (length codes) (λ c h. r c (omega arith))) (l.rel_refl (value a) (value-holds l codes a (length codes)))
-  run-kept a b (f ∷ fs) kept r =
+  run_kept : (a b : Marking) (fs : List (ℕ × List ℕ)) → KeptAll d codes n (vec_len n.transitions) → Run n a fs b → d.rel (value a) (value b)
+  run_kept a b [] kept r =
+      subst (d.rel (value a)) (value_same l codes a b (length codes) (λ c h. r c (omega arith))) (l.rel_refl (value a) (value_holds l codes a (length codes)))
+  run_kept a b (f ∷ fs) kept r =
       let k = length codes in
-      l.rel_trans (value a) (value r.0) (value b) (value-holds l codes a k) (value-holds l codes r.0 k) (value-holds l codes b k)
-      (fires-kept f.0 f.1 a r.0 kept r.1.0) (run-kept r.0 b fs kept r.1.1)
+      l.rel_trans (value a) (value r.0) (value b) (value_holds l codes a k) (value_holds l codes r.0 k) (value_holds l codes b k)
+      (fires_kept f.0 f.1 a r.0 kept r.1.0) (run_kept r.0 b fs kept r.1.1)
 
-  broken-at : (t : ℕ) (m : List ℕ) (v w : V) → t < vec_len n.transitions → First d codes n t m v w → BreaksAt d codes n t m (taken n t m)
-  broken-at t m v w h f =
+  broken_at : (t : ℕ) (m : List ℕ) (v w : V) → t < vec_len n.transitions → First d codes n t m v w → BreaksAt d codes n t m (taken n t m)
+  broken_at t m v w h f =
       let tm : Marking = taken n t m in
       let tp : Marking = given n t m in
       let after-it : Marking = λ c. tm c - tm c + tp c in
@@ -54,7 +54,7 @@ module _ {V : Type 0} {d : Meaning V} (l : Laws d) (codes : List ℤ) (cells : l
         record {
           there = h;
           four = ap length f.is;
-          mode = subst (Mode (transition n t).sizes) (sym f.is) (is-mode (transition n t).sizes f.index f.within);
+          mode = subst (Mode (transition n t).sizes) (sym f.is) (is_mode (transition n t).sizes f.index f.within);
           guard = f.fires;
           enough = λ c h. omega arith;
           new = λ c h. refl;
@@ -63,13 +63,13 @@ module _ {V : Type 0} {d : Meaning V} (l : Laws d) (codes : List ℤ) (cells : l
       )
 
   pub right : (r : Verdict V) → Judged d codes n r → Right d codes n r
-  right (Accepted c) j = λ b. b.3.2 (fires-kept b.0 b.1 b.2 b.3.0 j.1 b.3.1)
-  right (Broken t m v w) j = broken-at t m v w j.0 j.2
+  right (Accepted c) j = λ b. b.3.2 (fires_kept b.0 b.1 b.2 b.3.0 j.1 b.3.1)
+  right (Broken t m v w) j = broken_at t m v w j.0 j.2
 
   pub exactly : (r : Verdict V) → Right d codes n r → Exactly d codes n r
   exactly (Accepted c) h = (λ e. absurd (true≢false (sym e)), λ b. absurd (h b))
   exactly (Broken t m v w) h = (λ _. (t, m, taken n t m, h), λ _. refl)
 
   pub keeps : (r : Verdict V) → Judged d codes n r → Keeps d codes n r
-  keeps (Accepted c) j = λ a b fs r. run-kept a b fs j.1 r
+  keeps (Accepted c) j = λ a b fs r. run_kept a b fs j.1 r
   keeps (Broken t m v w) j = tt

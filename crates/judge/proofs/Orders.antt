@@ -4,8 +4,8 @@ use lib.Arith.{digits_div, digits_lt, digits_mod}
 use Rattle.format.specs.Format.{mode_count}
 use Rattle.net.specs.Nets.{Mode, digit, mode_of}
 
-digit-is : (i n : ℕ) → 0 < n → digit i n ≡ i % n
-digit-is i n h = rw (ne_eqb n 0 (λ z. omega arith))
+digit_is : (i n : ℕ) → 0 < n → digit i n ≡ i % n
+digit_is i n h = rw (ne_eqb n 0 (λ z. omega arith))
 
 module _ (p q r s a b c d : ℕ) (ha : a < p) (hb : b < q) (hc : c < r) (hd : d < s) where
   abbrev i : ℕ
@@ -13,13 +13,13 @@ module _ (p q r s a b c d : ℕ) (ha : a < p) (hb : b < q) (hc : c < r) (hd : d 
 
   counted : a ∷ b ∷ c ∷ d ∷ [] ≡ digit (i / s / r / q) p ∷ digit (i / s / r) q ∷ digit (i / s) r ∷ digit i s ∷ []
   counted =
-      let e3 : digit i s ≡ d = digit-is i s (omega arith) ∙ digits_mod ((a * q + b) * r + c) hd in
+      let e3 : digit i s ≡ d = digit_is i s (omega arith) ∙ digits_mod ((a * q + b) * r + c) hd in
       let f3 : i / s ≡ (a * q + b) * r + c = digits_div ((a * q + b) * r + c) hd in
-      let e2 : digit (i / s) r ≡ c = digit-is (i / s) r (omega arith) ∙ ap (λ (x : ℕ). x % r) f3 ∙ digits_mod (a * q + b) hc in
+      let e2 : digit (i / s) r ≡ c = digit_is (i / s) r (omega arith) ∙ ap (λ (x : ℕ). x % r) f3 ∙ digits_mod (a * q + b) hc in
       let f2 : i / s / r ≡ a * q + b = ap (λ (x : ℕ). x / r) f3 ∙ digits_div (a * q + b) hc in
-      let e1 : digit (i / s / r) q ≡ b = digit-is (i / s / r) q (omega arith) ∙ ap (λ (x : ℕ). x % q) f2 ∙ digits_mod a hb in
+      let e1 : digit (i / s / r) q ≡ b = digit_is (i / s / r) q (omega arith) ∙ ap (λ (x : ℕ). x % q) f2 ∙ digits_mod a hb in
       let f1 : i / s / r / q ≡ a = ap (λ (x : ℕ). x / q) f2 ∙ digits_div a hb in
-      let e0 : digit (i / s / r / q) p ≡ a = digit-is (i / s / r / q) p (omega arith) ∙ ap (λ (x : ℕ). x % p) f1 ∙ mod-eq_of_lt ha in
+      let e0 : digit (i / s / r / q) p ≡ a = digit_is (i / s / r / q) p (omega arith) ∙ ap (λ (x : ℕ). x % p) f1 ∙ mod-eq_of_lt ha in
       cc
 
   below : i < p * q * r * s
@@ -49,8 +49,8 @@ some zero q i h = let z : ⊥ = omega arith in absurd z
 some (suc p) zero i h = let z : ⊥ = omega arith in absurd z
 some (suc p) (suc q) i h = (omega arith, omega arith)
 
-pub is-mode : (ns : List ℕ) (i : ℕ) → i < mode_count ns → Mode ns (mode_of ns i)
-is-mode ns i h =
+pub is_mode : (ns : List ℕ) (i : ℕ) → i < mode_count ns → Mode ns (mode_of ns i)
+is_mode ns i h =
     let p = get_or ns 0 0 in
     let q = get_or ns 1 0 in
     let r = get_or ns 2 0 in
@@ -66,4 +66,4 @@ is-mode ns i h =
     }
   where
     small : (i n : ℕ) → 0 < n → digit i n < n
-    small i n h = rw (digit-is i n h) (mod-lt i h)
+    small i n h = rw (digit_is i n h) (mod-lt i h)

@@ -1,12 +1,12 @@
 use Rattle.std.proofs.Common.{arith, lit<, rules}
 use Rattle.std.proofs.lemmas.Bool.Decides.{nat_tests}
-use Rattle.term.proofs.Cuts.{tail, tail-shorter}
+use Rattle.term.proofs.Cuts.{tail, tail_shorter}
 use Rattle.format.proofs.operands.transition.Goals as goal
 
 pub returns-in-len6-up-3 : goal.returns-in-len6-up-3
 returns-in-len6-up-3 c = record {
   value = grind (arith, nat_tests, tail 6 c.args.bytes.now);
-  shorter = tail-shorter 6 c.args.bytes.now (lit< tt) (search rules);
+  shorter = tail_shorter 6 c.args.bytes.now (lit< tt) (search rules);
   plain = tt;
 }
 

@@ -1,10 +1,10 @@
 use Rattle.std.proofs.Common.{◌≡◌, ℕ, vec_len, sym, subst, arith, below_none}
 use Rattle.judge.specs.Judged.{First, KeptAll}
-use Rattle.judge.proofs.Turns.{Over, number-none, over-more}
+use Rattle.judge.proofs.Turns.{Over, number_none, over_more}
 use Rattle.judge.proofs.modes.judge_all.Goals as goal
 
 pub loop-t-init : goal.loop-t-init
-loop-t-init g c = (number-none c.args.net.now, below_none _)
+loop-t-init g c = (number_none c.args.net.now, below_none _)
 
 pub returns-in-Broken : goal.returns-in-Broken
 returns-in-Broken g c =
@@ -19,7 +19,7 @@ returns-in-Broken g c =
     )
 
 pub loop-t-preserved : goal.loop-t-preserved
-loop-t-preserved g c = over-more (g.D.WeightDomain.meaning c.args.d.now) c.args.codes.now c.args.net.now c.loop-t.t c.loop-t.seen c.in-Accepted.modes _ c.saturating_add-seen.ensures c.loop-t.invariant c.in-Accepted.ensures
+loop-t-preserved g c = over_more (g.D.WeightDomain.meaning c.args.d.now) c.args.codes.now c.args.net.now c.loop-t.t c.loop-t.seen c.in-Accepted.modes _ c.saturating_add-seen.ensures c.loop-t.invariant c.in-Accepted.ensures
 
 pub returns : goal.returns
 returns g c =

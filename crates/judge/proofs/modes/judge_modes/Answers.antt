@@ -1,11 +1,11 @@
 use Rattle.std.proofs.Common.{◌≡◌, ℕ, ◌+◌, sym, refl, ◌∙◌, subst, arith, below_none}
 use Rattle.judge.specs.Judged.{modes_of}
-use Rattle.judge.proofs.Turns.{Turned, firing-none, kept, passed}
+use Rattle.judge.proofs.Turns.{Turned, firing_none, kept, passed}
 use Rattle.judge.proofs.modes.judge_modes.Goals as goal
 use Rattle.judge.proofs.modes.judge_modes.Goals.{then-guard+else-not-relates, else-guard}
 
 pub loop-i-init : goal.loop-i-init
-loop-i-init g c = (firing-none c.args.net.now c.args.t, below_none _)
+loop-i-init g c = (firing_none c.args.net.now c.args.t, below_none _)
 
 pub returns-then-not-relates : goal.returns-then-not-relates
 returns-then-not-relates g c = (

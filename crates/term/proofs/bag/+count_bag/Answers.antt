@@ -4,12 +4,12 @@ use Rattle.term.specs.Meaning.{of, value as value_of, count, bag_operation, copi
 use Rattle.term.specs.Prefix.{term_at, bag_at}
 use Rattle.term.proofs.Cuts.{tail}
 use Rattle.term.proofs.Tallies.{unchanged, after, alike, same_sum}
-use Rattle.term.proofs.Turns.{bag-none, at-empty, at-single, at_sum, at-flexible, at_other, first_part}
+use Rattle.term.proofs.Turns.{bag_none, at_empty, at_single, at_sum, at_flexible, at_other, first_part}
 use Rattle.term.proofs.bag.+count_bag.Goals as goal
 
 pub returns-then-depth-eq0 : goal.returns-then-depth-eq0
 returns-then-depth-eq0 t c =
-    rw (bag-none (of c.args.s) c.args.depth c.args.bytes.now c.if-depth-eq0.true)
+    rw (bag_none (of c.args.s) c.args.depth c.args.bytes.now c.if-depth-eq0.true)
     (record { counts = unchanged _ _ _ (λ i. (c.type_inv.counts i).fits) (λ e. refl); rest = refl })
 
 pub returns-in-48 : goal.returns-in-48
@@ -17,7 +17,7 @@ returns-in-48 t c =
     let bs = c.args.bytes.now in
     let h : 0 < length bs = search rules in
     let e : get_or bs 0 0 ≡ 0x30 = search rules in
-    rw (at-empty (of c.args.s) c.args.depth bs (omega arith) h e) (record { counts = unchanged _ _ _ (λ i. (c.type_inv.counts i).fits) (λ e. refl); rest = tail 1 bs })
+    rw (at_empty (of c.args.s) c.args.depth bs (omega arith) h e) (record { counts = unchanged _ _ _ (λ i. (c.type_inv.counts i).fits) (λ e. refl); rest = tail 1 bs })
 
 pub returns-in-49 : goal.returns-in-49
 returns-in-49 t c =
@@ -26,7 +26,7 @@ returns-in-49 t c =
     let e : get_or bs 0 0 ≡ 0x31 = search rules in
     let q = first_part (term_at (of c.args.s) (c.args.depth - 1)) (value_of (of c.args.s) c.args.mode.now) (drop 1 bs) _ (tail 1 bs)
     c.value-element.result.0 c.value-element.result.1.now c.value-element.ensures.value c.value-element.ensures.rest in
-    rw (at-single (of c.args.s) c.args.depth bs (omega arith) h e)
+    rw (at_single (of c.args.s) c.args.depth bs (omega arith) h e)
     (record { counts = alike _ _ _ _ _ (λ i. ap (λ v. cond (eqb v i) 1 0) q.0) c.add.ensures; rest = q.1 })
 
 pub returns-in-50 : goal.returns-in-50
@@ -54,7 +54,7 @@ returns-in-51 t c =
     let e : get_or bs 0 0 ≡ 0x33 = search rules in
     let q = first_part (term_at s (c.args.depth - 1)) (value_of s c.args.mode.now) (drop 2 bs) _ (tail 2 bs)
     c.value-argument.result.0 c.value-argument.result.1.now c.value-argument.ensures.value c.value-argument.ensures.rest in
-    rw (at-flexible s c.args.depth bs (omega arith) h e)
+    rw (at_flexible s c.args.depth bs (omega arith) h e)
     (record {
       counts = alike _ _ _ _ _
           (λ i. ap (λ o. copies_in s o c.value-argument.result.0 i) c.bag_operation.ensures ∙ ap (λ v. copies_in s (bag_operation s (get_or bs 1 0)) v i) q.0)

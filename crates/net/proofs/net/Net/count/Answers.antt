@@ -4,7 +4,7 @@ use Rattle.term.specs.Prefix.{bag_at}
 use Rattle.term.specs.Worth.{on_place}
 use Rattle.net.specs.Nets.{Tallied, bag_of, goes, no_arc, side, sig}
 use Rattle.term.proofs.Sums.{place_same}
-use Rattle.net.proofs.Sides.{one, side-next}
+use Rattle.net.proofs.Sides.{one, side_next}
 use Rattle.net.proofs.Tallied.{alike, more, none}
 use Rattle.net.proofs.net.Net.count.Goals as goal
 use Rattle.net.proofs.net.Net.count.Goals.{then-same, else-same}
@@ -22,7 +22,7 @@ loop-arc-preserved c =
     let a = get_or items i no_arc in
     let so_far = side n m d (take i items) in
     let here : ℕ → ℕ = λ k. on_place a.place (count (sig n) m (bag_of n a)) k in
-    let next : (k : ℕ) → so_far k + one n m d a k ≡ side n m d (take (i + 1) items) k = λ k. sym (side-next n m d items i k c.loop-arc-test.true) in
+    let next : (k : ℕ) → so_far k + one n m d a k ≡ side n m d (take (i + 1) items) k = λ k. sym (side_next n m d items i k c.loop-arc-test.true) in
     elim c.if-same.branch [
       | then-same w ↦
           let yes = sym c.same.ensures ∙ w.if-same.true in
