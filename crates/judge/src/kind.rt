@@ -20,8 +20,8 @@ pub fn judge_by_kind(
     before: &mut [u32],
     after: &mut [u32],
 ) -> Result<Outcome, Fault>
-    ensures kinds { (k : Kind) → IsKind net.now claim k → ByKind k net.now claim (record { codes = codes.entry.now; before = before.old; after = after.old }) (record { codes = codes.exit.now; before = before.new; after = after.new }) result }
-    ensures none { vec_len net.now.claims ≤ claim → By equal net.now claim (record { codes = codes.entry.now; before = before.old; after = after.old }) (record { codes = codes.exit.now; before = before.new; after = after.new }) result }
+    ensures kinds { (k : Kind) → IsKind net.now claim k → ByKind k net.now claim (record { codes = codes.old; before = before.old; after = after.old }) (record { codes = codes.new; before = before.new; after = after.new }) result }
+    ensures none { vec_len net.now.claims ≤ claim → By equal net.now claim (record { codes = codes.old; before = before.old; after = after.old }) (record { codes = codes.new; before = before.new; after = after.new }) result }
 {
     let Some(kind) = net.kind(claim) else {
         return without_values(judge(net, claim, &Equal, codes, before, after));

@@ -122,7 +122,7 @@ pub fn judge<D: WeightDomain>(
     before: &mut [u32],
     after: &mut [u32],
 ) -> Result<Verdict<D::Value>, Fault>
-    ensures { Called (D.meaning d.now) net.now claim (record { codes = codes.entry.now; before = before.old; after = after.old }) (record { codes = codes.exit.now; before = before.new; after = after.new }) result }
+    ensures { Called (D.meaning d.now) net.now claim (record { codes = codes.old; before = before.old; after = after.old }) (record { codes = codes.new; before = before.new; after = after.new }) result }
 {
     if !measured(codes, before, after) {
         return Err(Fault::Memory);
