@@ -18,8 +18,8 @@ fn check_fault(
     stage: Stage,
 ) -> Result<(), Fail> {
     match net_of(heap, file) {
-        Ok(_) => Err(Fail::new("reads")),
-        Err(ReadError::Memory) => Err(Fail::new("no memory")),
+        Ok(_) => Err(Fail::new(format_args!("{at}: reads"))),
+        Err(ReadError::Memory) => Err(Fail::new(format_args!("{at}: no memory"))),
         Err(ReadError::File(f)) => {
             assert_eq!(rt;
                 (f.fault.number(), f.place, f.stage),
@@ -35,7 +35,7 @@ fn check_fault(
 fn check_reads(rt: &impl Abort, at: &str, heap: Global, file: &[u8]) -> Result<(), Fail> {
     match net_of(heap, file) {
         Ok(_) => Ok(()),
-        Err(ReadError::Memory) => Err(Fail::new("no memory")),
+        Err(ReadError::Memory) => Err(Fail::new(format_args!("{at}: no memory"))),
         Err(ReadError::File(f)) => {
             assert_eq!(rt; (f.fault.number(), f.place, f.stage), (0, 0, File), "{at}");
             Ok(())

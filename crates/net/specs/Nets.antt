@@ -1,5 +1,5 @@
 -- Nets and what their transitions take and put.
-use Rattle.std.specs.Prelude.{◌≡◌, ℕ, ◌+◌, ◌-◌, ◌*◌, ◌/◌, ◌%◌, ◌^◌, ◌<◌, min, Bool, true, false, cond, ◌&&◌, List, [], ◌∷◌, length, get_or, take, drop, ℤ, vec_items, vec_len, ◌==◌, nat_le, slice_index, slice_index_or}
+use Rattle.std.specs.Prelude.{◌≡◌, ℕ, ◌+◌, ◌-◌, ◌*◌, ◌/◌, ◌%◌, ◌^◌, ◌<◌, min, Bool, true, false, cond, ◌&&◌, List, [], ◌∷◌, length, take, drop, ℤ, vec_items, vec_len, ◌==◌, nat_le, slice_index, slice_index_or}
 use Rattle.domain.specs.declared.kind.Kind.{Kind}
 use Rattle.format.specs.declared.command.Direction.{Direction}
 use Rattle.format.specs.declared.command.Direction.TheVariants.{In, Out}
@@ -77,10 +77,10 @@ mode_of ns i =
 
 -- a mode gives each of the four variables an element of its sort, 0 where there is no variable
 pub record Mode (ns m : List ℕ) : Type 0 where
-  pub first : get_or m 0 0 < slice_index ns 0
-  pub second : get_or m 1 0 < slice_index ns 1
-  pub third : get_or m 2 0 < slice_index ns 2
-  pub fourth : get_or m 3 0 < slice_index ns 3
+  pub first : slice_index m 0 < slice_index ns 0
+  pub second : slice_index m 1 < slice_index ns 1
+  pub third : slice_index m 2 < slice_index ns 2
+  pub fourth : slice_index m 3 < slice_index ns 3
 
 -- a marking is added to counts, each held at the largest number of 32 bits
 abbrev pub Tallied : List ℕ → List ℕ → Marking → Type 0
