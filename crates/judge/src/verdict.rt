@@ -13,7 +13,15 @@ pub enum Verdict<V> {
     },
 }
 
-// The same by kind, without the values.
+// What one mode tells: its guard is false, its values before and after are related, or they are not.
+#[derive(Drop)]
+pub(crate) enum Told<V> {
+    Idle,
+    Kept,
+    Apart(V, V),
+}
+
+// A verdict by kind, without the values.
 #[derive(Clone, Copy, PartialEq, Eq, Debug)]
 pub enum Outcome {
     Accepted { modes: u32 },

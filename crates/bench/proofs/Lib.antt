@@ -1,0 +1,5 @@
+pub mod Cells
+pub mod Walks
+pub mod Fired
+pub mod Standing
+pub mod Values

@@ -1,0 +1,18 @@
+use Rattle.std.proofs.Common.{ℕ, sym, ap, ◌∙◌, add-one}
+use Rattle.std.proofs.lemmas.Int.{to_z-of_z}
+use Rattle.format.specs.Commands.{element_weight}
+use Rattle.net.specs.Reading.{add, row_put}
+use Rattle.net.specs.System.{SystemNet, system}
+use Rattle.net.proofs.Adding.{row_more}
+use Rattle.net.proofs.parts.Parts.set_codes.Goals as goal
+
+pub loop-element-preserved : goal.loop-element-preserved
+loop-element-preserved c =
+    let n = system c.args.self.now in
+    let p = c.args.place in
+    let e = c.loop-element.element in
+    let k = c.args.code in
+    let fits = c.ranges.code in
+    let now = simp to_z-of_z at c.set_code.ensures.value in
+    let was = simp to_z-of_z at c.loop-element.invariant.0 in
+    (simp to_z-of_z (now ∙ ap (λ (z : SystemNet). add z (element_weight p e k)) was ∙ row_more n p e k ∙ ap (λ (j : ℕ). row_put n p j k) (sym (add-one e))), c.set_code.ensures.room)
