@@ -1,7 +1,6 @@
 -- The marking that lent counts hold.
-use Rattle.std.specs.Prelude.{slice_index}
-use Rattle.term.specs.Worth.{Marking}
+use Rattle.std.specs.Prelude.{ℕ, slice_index}
 use Rattle.bench.specs.declared.counts.Counts.{Counts}
 
-abbrev pub tokens : Counts → Marking
+abbrev pub tokens : Counts → ℕ → ℕ
 tokens k c = slice_index k.cells.now c

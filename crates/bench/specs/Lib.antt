@@ -1,5 +1,1 @@
 pub mod Counted
-pub mod Path
-pub mod Calls
-pub mod Standing
-pub mod Values

@@ -3,7 +3,7 @@ use crate::nets::{MANY, SMALL, TWICE, changed, joined, net_of, repeated};
 use domain::{Equal, Most, Siphon};
 use judge::{Outcome, Verdict, cap, cap_by_kind, judge, judge_by_kind, survey};
 use lent::list::LentList;
-use net::{CELLS, Net};
+use net::{CELLS, Net, ReadError};
 use std::alloc::Global;
 use std::process::Abort;
 use std::test::Fail;
@@ -310,7 +310,7 @@ fn cap_of(most: Result<Most, Fault>) -> Cap {
 }
 
 // The cap of a cell by claim 0.
-fn first_cap(heap: Global, file: &[u8], cell: usize) -> Result<Cap, Fail> {
+fn first_cap(heap: Global, file: &[u8], cell: usize) -> Result<Cap, ReadError> {
     let net = net_of(heap, file)?;
     let mut codes = [7; CELLS];
     let mut before = [7; CELLS];

@@ -1,7 +1,6 @@
 // Files as hexadecimal digits, in parts, and small changes of them.
-use net::{Net, read};
+use net::{Net, ReadError, read};
 use std::alloc::{AllocError, Global};
-use std::test::Fail;
 
 // Two handsets share one channel. Place 0 is quiet, 1 is sending, 2 is the free channel; transition 0 begins to
 // send, transition 1 ends it and gives the channel back.
@@ -79,8 +78,10 @@ pub fn changed(heap: Global, from: usize, to: usize, with: &str) -> Result<Vec<u
 }
 
 // The net that a file reads as.
-pub fn net_of(heap: Global, file: &[u8]) -> Result<Net, Fail> {
-    let mut net = Net::new(heap)?;
+pub fn net_of(heap: Global, file: &[u8]) -> Result<Net, ReadError> {
+    let Ok(mut net) = Net::new(heap) else {
+        return Err(ReadError::Memory);
+    };
     read(&mut net, file)?;
     Ok(net)
 }

@@ -1,6 +1,6 @@
 // Which files read, and the fault of each that does not: its number, its byte and its stage.
-use crate::nets::{changed, joined, repeated};
-use net::{Net, read};
+use crate::nets::{changed, joined, net_of, repeated};
+use net::{Net, ReadError, read};
 use std::alloc::Global;
 use std::process::Abort;
 use std::test::Fail;
@@ -17,10 +17,10 @@ fn check_fault(
     place: usize,
     stage: Stage,
 ) -> Result<(), Fail> {
-    let mut net = Net::new(heap)?;
-    match read(&mut net, file) {
-        Ok(()) => Err(Fail::new("reads")),
-        Err(f) => {
+    match net_of(heap, file) {
+        Ok(_) => Err(Fail::new(format_args!("{at}: reads"))),
+        Err(ReadError::Memory) => Err(Fail::new(format_args!("{at}: no memory"))),
+        Err(ReadError::File(f)) => {
             assert_eq!(rt;
                 (f.fault.number(), f.place, f.stage),
                 (number, place, stage),
@@ -33,10 +33,10 @@ fn check_fault(
 
 // Checks that a file reads.
 fn check_reads(rt: &impl Abort, at: &str, heap: Global, file: &[u8]) -> Result<(), Fail> {
-    let mut net = Net::new(heap)?;
-    match read(&mut net, file) {
-        Ok(()) => Ok(()),
-        Err(f) => {
+    match net_of(heap, file) {
+        Ok(_) => Ok(()),
+        Err(ReadError::Memory) => Err(Fail::new(format_args!("{at}: no memory"))),
+        Err(ReadError::File(f)) => {
             assert_eq!(rt; (f.fault.number(), f.place, f.stage), (0, 0, File), "{at}");
             Ok(())
         },

@@ -38,7 +38,7 @@ pub fn check_replay(
     }; 8192]?;
     let mut trail = LentList::new(memory.as_mut_slice());
     let Ok(replayed) = replay(net, &mut cells, &mut trail, bytes) else {
-        return Err(Fail::new("refused"));
+        return Err(Fail::new(format_args!("{at}: refused")));
     };
     assert_eq!(rt; ended(replayed), want, "{at}");
     assert_eq!(rt; trail.len(), firings, "{at}");

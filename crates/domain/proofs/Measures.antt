@@ -1,11 +1,11 @@
 -- The largest number of copies, in whole numbers and in truth values. Assumes nothing.
-use Rattle.std.proofs.Common.{◌≡◌, ℕ, zero, suc, ◌+◌, ◌-◌, ◌*◌, ◌/◌, ◌<◌, ◌≤◌, Bool, true, false, cond, ◌||◌, eqb, ℤ, pos, negsuc, ◌+ℤ◌, ◌*ℤ◌, ◌≤ℤ◌, sym, refl, ap, ◌∙◌, subst, div-lt_iff_lt-mul, div-mul-le_self, arith, w64, SFits, to_z, of_z}
+use Rattle.std.proofs.Common.{◌≡◌, ℕ, zero, suc, ◌-◌, ◌*◌, ◌/◌, ◌<◌, ◌≤◌, Bool, true, false, eqb, ℤ, pos, negsuc, ◌+ℤ◌, ◌≤ℤ◌, refl, ap, ◌∙◌, subst, div-lt_iff_lt-mul, div-mul-le_self, arith, w64, SFits, to_z, of_z}
 use Rattle.std.proofs.lemmas.Int.{ints, to_z-of_z}
 use Rattle.domain.specs.Meaning.{copies}
 use Rattle.domain.specs.Domains.{siphon, whole}
 use Rattle.domain.specs.Measure.{Largest, Reaches, whole_largest, truth_largest}
 use Rattle.domain.specs.declared.measuring.Most.{Most}
-use Rattle.domain.specs.declared.measuring.Most.TheVariants.{At, Unbounded}
+use Rattle.domain.specs.declared.measuring.Most.TheVariants.{At}
 use Rattle.domain.specs.Truths.{copies_false, copies_truth}
 use Rattle.domain.specs.Wholes.{copies_whole}
 
@@ -22,33 +22,33 @@ module _ {rel : ℤ → ℤ → Type 0} (same : (v x : ℤ) → v ≡ x → rel 
   reaches a b n h =
       (pos (a - n * b), omega (arith, ints), same (pos a) (copies (whole rel) n (pos b) +ℤ pos (a - n * b)) (rw (copies_whole n (pos b)) (ap pos (omega arith))))
 
-  not-past : (a b n : ℕ) → Reaches (whole rel) (λ v. pos 0 ≤ℤ v) (pos a) (pos b) n → n * b ≤ a
-  not-past a b n (p, plain, r) =
+  not_past : (a b n : ℕ) → Reaches (whole rel) (λ v. pos 0 ≤ℤ v) (pos a) (pos b) n → n * b ≤ a
+  not_past a b n (p, plain, r) =
       let d : (pos (n * b) +ℤ p) ≤ℤ pos a = subst (λ (x : ℤ). (x +ℤ p) ≤ℤ pos a) (copies_whole n (pos b)) (down (pos a) (copies (whole rel) n (pos b) +ℤ p) r) in
       omega (arith, ints)
 
-  pub largest-whole : (v w : ℤ) → pos 0 ≤ℤ v → pos 0 ≤ℤ w → Largest (whole rel) (λ v. pos 0 ≤ℤ v) v w (whole_largest v w)
-  largest-whole (pos a) (pos zero) h k = λ n. reaches a 0 n (omega arith)
-  largest-whole (pos a) (pos (suc b)) h k =
+  pub largest_whole : (v w : ℤ) → pos 0 ≤ℤ v → pos 0 ≤ℤ w → Largest (whole rel) (λ v. pos 0 ≤ℤ v) v w (whole_largest v w)
+  largest_whole (pos a) (pos zero) h k = λ n. reaches a 0 n (omega arith)
+  largest_whole (pos a) (pos (suc b)) h k =
       let e : eqb (suc b) 0 ≡ false = grind arith in
-      rw e (reaches a (suc b) (a / suc b) (div-mul-le_self a (suc b)), λ m l r. let u : m * suc b ≤ a = not-past a (suc b) m r in let o : a < m * suc b = (div-lt_iff_lt-mul {k = suc b} {x = a} {y = m} (omega arith)).0 l in omega arith)
-  largest-whole (pos a) (negsuc b) h k = let z : ⊥ = omega (arith, ints) in elim z [ ]
-  largest-whole (negsuc a) (pos b) h k = let z : ⊥ = omega (arith, ints) in elim z [ ]
-  largest-whole (negsuc a) (negsuc b) h k = let z : ⊥ = omega (arith, ints) in elim z [ ]
+      rw e (reaches a (suc b) (a / suc b) (div-mul-le_self a (suc b)), λ m l r. let u : m * suc b ≤ a = not_past a (suc b) m r in let o : a < m * suc b = (div-lt_iff_lt-mul {k = suc b} {x = a} {y = m} (omega arith)).0 l in omega arith)
+  largest_whole (pos a) (negsuc b) h k = let z : ⊥ = omega (arith, ints) in elim z [ ]
+  largest_whole (negsuc a) (pos b) h k = let z : ⊥ = omega (arith, ints) in elim z [ ]
+  largest_whole (negsuc a) (negsuc b) h k = let z : ⊥ = omega (arith, ints) in elim z [ ]
 
-  pub plains-whole : {v w : ℤ} {r : Most} → SFits w64 v → SFits w64 w → Read v w r → pos 0 ≤ℤ v → pos 0 ≤ℤ w → Largest (whole rel) (λ v. pos 0 ≤ℤ v) v w r
-  plains-whole {v} {w} {r} fv fw e h k = rw (read v w r fv fw e) (largest-whole v w h k)
+  pub plains_whole : {v w : ℤ} {r : Most} → SFits w64 v → SFits w64 w → Read v w r → pos 0 ≤ℤ v → pos 0 ≤ℤ w → Largest (whole rel) (λ v. pos 0 ≤ℤ v) v w r
+  plains_whole {v} {w} {r} fv fw e h k = rw (read v w r fv fw e) (largest_whole v w h k)
 
-others-whole : (v w : ℤ) → ((pos 0 ≤ℤ v) × (pos 0 ≤ℤ w) → ⊥) → whole_largest v w ≡ At 0
-others-whole (pos a) (pos b) h = elim (h (omega (arith, ints), omega (arith, ints))) [ ]
-others-whole (pos a) (negsuc b) h = refl
-others-whole (negsuc a) (pos b) h = refl
-others-whole (negsuc a) (negsuc b) h = refl
+others_whole : (v w : ℤ) → ((pos 0 ≤ℤ v) × (pos 0 ≤ℤ w) → ⊥) → whole_largest v w ≡ At 0
+others_whole (pos a) (pos b) h = elim (h (omega (arith, ints), omega (arith, ints))) [ ]
+others_whole (pos a) (negsuc b) h = refl
+others_whole (negsuc a) (pos b) h = refl
+others_whole (negsuc a) (negsuc b) h = refl
 
-pub others-zero : {v w : ℤ} {r : Most} → SFits w64 v → SFits w64 w → Read v w r → ((pos 0 ≤ℤ v) × (pos 0 ≤ℤ w) → ⊥) → r ≡ At 0
-others-zero {v} {w} {r} fv fw e h = read v w r fv fw e ∙ others-whole v w h
+pub others_zero : {v w : ℤ} {r : Most} → SFits w64 v → SFits w64 w → Read v w r → ((pos 0 ≤ℤ v) × (pos 0 ≤ℤ w) → ⊥) → r ≡ At 0
+others_zero {v} {w} {r} fv fw e h = read v w r fv fw e ∙ others_whole v w h
 
-pub largest-truth : (v w : Bool) → Largest siphon (λ _. Unit {0}) v w (truth_largest v w)
-largest-truth true w = λ n. (false, tt, λ _. refl)
-largest-truth false false = λ n. (false, tt, simp (copies_false n) (λ e. e))
-largest-truth false true = ((false, tt, λ e. e), λ m h r. let e : false ≡ true = r.2 (rw (copies_truth m true h)) in let z : ◌≡◌ {A = ℕ} 0 1 = cc in omega arith)
+pub largest_truth : (v w : Bool) → Largest siphon (λ _. Unit {0}) v w (truth_largest v w)
+largest_truth true w = λ n. (false, tt, λ _. refl)
+largest_truth false false = λ n. (false, tt, simp (copies_false n) (λ e. e))
+largest_truth false true = ((false, tt, λ e. e), λ m h r. let e : false ≡ true = r.2 (rw (copies_truth m true h)) in let z : ◌≡◌ {A = ℕ} 0 1 = cc in omega arith)

@@ -1,5 +1,5 @@
 -- What a measuring domain is. Assumes nothing.
-use Rattle.std.specs.Prelude.{◌≡◌, ℕ, ◌/◌, ◌<◌, Bool, true, false, cond, not, ◌||◌, ℤ, pos, negsuc, ◌==◌}
+use Rattle.std.specs.Prelude.{ℕ, ◌/◌, ◌<◌, Bool, cond, not, ◌||◌, ℤ, pos, negsuc, ◌==◌}
 use Rattle.domain.specs.Meaning.{Meaning, copies}
 use Rattle.domain.specs.declared.measuring.Most.{Most}
 use Rattle.domain.specs.declared.measuring.Most.TheVariants.{At, Unbounded}

@@ -1,6 +1,6 @@
 -- The laws of the truth values under "or". Assumes nothing.
-use Rattle.std.specs.Prelude.{◌≡◌, ℕ, zero, suc, ◌<◌, Bool, true, false, ◌&&◌, ◌||◌, eqb, ltb, ℤ, pos, negsuc, refl}
-use Rattle.std.proofs.Common.{sym, ap, ◌∙◌, arith}
+use Rattle.std.specs.Prelude.{◌≡◌, ℕ, zero, suc, ◌<◌, Bool, true, false, ◌||◌, ℤ, pos, negsuc, refl}
+use Rattle.std.proofs.Common.{arith}
 use Rattle.domain.specs.Meaning.{Laws, copies}
 use Rattle.domain.specs.Domains.{siphon, truth_code, truth_weight}
 

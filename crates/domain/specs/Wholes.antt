@@ -1,12 +1,11 @@
 -- The laws of the whole numbers. Assumes nothing.
-use Rattle.std.specs.Prelude.{◌≡◌, ℕ, zero, suc, ◌+◌, ◌*◌, ◌≤◌, Bool, true, false, cond, ℤ, pos, negsuc, ◌+ℤ◌, ◌*ℤ◌, neg_ℤ, ◌≤ℤ◌, FitsSigned, unsigned_abs, refl}
+use Rattle.std.specs.Prelude.{◌≡◌, ℕ, zero, suc, ◌+◌, ◌*◌, ◌≤◌, false, ℤ, pos, negsuc, ◌+ℤ◌, ◌*ℤ◌, ◌≤ℤ◌, neg_ℤ, FitsSigned, unsigned_abs, refl}
 use Rattle.std.proofs.Common.{sym, ap, ◌∙◌, arith, to_z, of_z}
 use Rattle.std.proofs.Math.IntN.{+ℤ_comm, +ℤ_assoc, +ℤ_idl, suc_ℤ-*ℤ, zero-*ℤ}
-use Rattle.std.specs.Int.Signed.{le_z}
 use Rattle.std.proofs.lemmas.Int.{ints, to_z-of_z}
 use Rattle.std.specs.Int.{w64}
 use Rattle.domain.specs.Meaning.{Laws, copies, largest_sum, largest_weight, times}
-use Rattle.domain.specs.Domains.{equal, whole, whole_code, whole_weight}
+use Rattle.domain.specs.Domains.{equal, never_rises, whole, whole_code, whole_weight}
 
 pub copies_whole : (n : ℕ) (w : ℤ) → times (pos 0) ◌+ℤ◌ n w ≡ pos n *ℤ w
 copies_whole zero w = sym (zero-*ℤ w)
@@ -55,6 +54,9 @@ small (negsuc n) h = record { sfits = omega arith }
 
 pub equal_laws : Laws equal
 equal_laws = whole_laws (λ v w. v ≡ w) (λ v. refl) (λ u v w p q. p ∙ q) (λ u v w p. ap (λ x. u +ℤ x) p)
+
+pub never_rises_laws : Laws never_rises
+never_rises_laws = whole_laws (λ v w. w ≤ℤ v) (λ v. omega (arith, ints)) (λ u v w p q. omega (arith, ints)) (λ u v w p. omega (arith, ints))
 
 -- the program's product and sum are the exact ones where they are small
 module _ (v : ℤ) {w m : ℤ} {n : ℕ} (fw : FitsSigned w64 w) (fm : FitsSigned w64 m) (e : m ≡ pos n) (h : unsigned_abs v + n * unsigned_abs w ≤ largest_sum) where

@@ -1,8 +1,5 @@
 ghost use Rattle.domain.specs.Domains.{never_rises};
-ghost use Rattle.std.proofs.Common.{arith};
-ghost use Rattle.std.specs.Prelude.{◌≤ℤ◌};
-ghost use Rattle.std.proofs.lemmas.Int.{ints};
-ghost use Rattle.domain.specs.Wholes.{whole_laws};
+ghost use Rattle.domain.specs.Wholes.{never_rises_laws};
 
 use crate::{WeightDomain, whole};
 
@@ -15,7 +12,7 @@ impl WeightDomain for NeverRises {
 
     ghost meaning = { λ _. never_rises };
 
-    ghost lawful = { λ d. whole_laws (λ v w. w ≤ℤ v) (λ v. omega (arith, ints)) (λ u v w p q. omega (arith, ints)) (λ u v w p. omega (arith, ints)) };
+    ghost lawful = { λ d. never_rises_laws };
 
     fn is_weight(&self, code: i32) -> bool {
         whole::is_code(code)

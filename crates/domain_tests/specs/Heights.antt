@@ -1,6 +1,6 @@
 -- The laws of heights under the maximum. Assumes nothing.
-use Rattle.std.specs.Prelude.{◌≡◌, ℕ, zero, suc, ◌<◌, ◌≤◌, max, Bool, true, false, ℤ, pos, negsuc, refl}
-use Rattle.std.proofs.Common.{ap, ◌∙◌, arith}
+use Rattle.std.specs.Prelude.{◌≡◌, ℕ, zero, suc, ◌<◌, ◌≤◌, max, false, ℤ, pos, negsuc, refl}
+use Rattle.std.proofs.Common.{ap, arith}
 use Rattle.domain.specs.Meaning.{Added, Laws, copies}
 use Rattle.domain_tests.specs.declared.Height.{Height}
 use Rattle.domain_tests.specs.Greatest.{greatest, height, height_code, height_weight}

@@ -1,5 +1,5 @@
 -- The kinds of claims and the moduli that fit them.
-use Rattle.std.proofs.Common.{◌≡◌, ℕ, zero, suc, ◌<◌, ◌≤◌, true, false, refl, arith, ne_eqb, eqb-true, le-leb, leb-true}
+use Rattle.std.proofs.Common.{◌≡◌, ℕ, zero, suc, ◌≤◌, true, false, refl, arith, ne_eqb, le-leb}
 use borrow.Author.Tests.{lt-leb}
 use Rattle.domain.specs.Kinds.{Numbered}
 use Rattle.domain.specs.declared.kind.Kind.{Kind}
@@ -27,14 +27,3 @@ no_kind (suc (suc (suc (suc zero)))) m a b c f =
 no_kind (suc (suc (suc (suc (suc zero))))) m a b c f = ne_eqb m 0 (λ e. f Trap (refl, e))
 no_kind (suc (suc (suc (suc (suc (suc zero)))))) m a b c f = ne_eqb m 0 (λ e. f Siphon (refl, e))
 no_kind (suc (suc (suc (suc (suc (suc (suc n))))))) m a b c f = let z : ⊥ = omega arith in absurd z
-
--- a modulus that fits a number is that of a kind
-pub kind-found : (n m : ℕ) → 1 ≤ n → n ≤ 6 → m < 65536 → modulus_fits n m ≡ true → (x : Kind) × Numbered x n m
-kind-found zero m a b c f = let z : ⊥ = omega arith in absurd z
-kind-found (suc zero) m a b c f = (Equal, (refl, eqb-true m 0 f))
-kind-found (suc (suc zero)) m a b c f = (NeverRises, (refl, eqb-true m 0 f))
-kind-found (suc (suc (suc zero))) m a b c f = (NeverFalls, (refl, eqb-true m 0 f))
-kind-found (suc (suc (suc (suc zero)))) m a b c f = (Modulo (record { k = m; ok = (leb-true 2 m f, omega arith) }), (refl, refl))
-kind-found (suc (suc (suc (suc (suc zero))))) m a b c f = (Trap, (refl, eqb-true m 0 f))
-kind-found (suc (suc (suc (suc (suc (suc zero)))))) m a b c f = (Siphon, (refl, eqb-true m 0 f))
-kind-found (suc (suc (suc (suc (suc (suc (suc n))))))) m a b c f = let z : ⊥ = omega arith in absurd z

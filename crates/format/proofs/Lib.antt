@@ -1,6 +1,5 @@
 pub mod Claims
+pub mod Handed
 pub mod Local
-pub mod Parsed
-pub mod Passed
 pub mod Tables
 pub mod Terms

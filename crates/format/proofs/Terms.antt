@@ -1,5 +1,5 @@
 -- Commands that end in a term or a bag.
-use Rattle.std.proofs.Common.{◌≡◌, ℕ, ◌<◌, true, cond, ltb, List, length, get_or, drop, sym, ap, ◌∙◌, lt-ltb}
+use Rattle.std.proofs.Common.{◌≡◌, ℕ, ◌<◌, cond, ltb, List, length, get_or, drop, sym, ap, ◌∙◌, lt-ltb}
 use Rattle.term.specs.Check.{Checked, check_bag, check_term}
 use Rattle.term.specs.declared.fault.Fault.TheVariants as fail
 use Rattle.term.specs.Meaning.{Sig}

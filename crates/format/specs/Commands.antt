@@ -1,5 +1,5 @@
 -- The commands of a net file as plain values, and their numbers.
-use Rattle.std.specs.Prelude.{ℕ, cond, List, [], ℤ, Some, None, Ok, Err, Option, Result, ◌==◌}
+use Rattle.std.specs.Prelude.{ℕ, cond, List, ℤ, Some, None, Ok, Err, Option, Result, ◌==◌}
 use Rattle.std.specs.Borrow.{Bor}
 use Rattle.term.specs.declared.fault.FileFault.{FileFault}
 use Rattle.format.specs.declared.command.Code.{Code}
@@ -27,26 +27,6 @@ pub data Said : Type 0 where
 pub data Read : Type 0 where
   said : Said → List ℕ → Read
   fault : FileFault → Read
-
--- the bytes that a net keeps of a command: its table, term or bag
-abbrev pub payload : Said → List ℕ
-payload (sort n) = []
-payload (operation n a b r t) = t
-payload (bag_operation a r t) = t
-payload (place s) = []
-payload (tokens p e n) = []
-payload (transition n s) = []
-payload (guard t) = t
-payload (arc d p t) = t
-payload (claim k m) = []
-payload (place_weight p c) = []
-payload (element_weight p e c) = []
-payload end = []
-
--- P of the command that was read and of the bytes that follow it; of a fault nothing
-pub data Holds (P : Said → List ℕ → Type 0) : Read → Type 0 where
-  holds : {s : Said} {r : List ℕ} → P s r → Holds P (said s r)
-  nothing : {e : FileFault} → Holds P (fault e)
 
 -- what a command says
 abbrev pub said_of : Command → Said

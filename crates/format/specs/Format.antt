@@ -208,28 +208,18 @@ end_at bs ends =
     byte bs ends 0 (λ c.
     cond (nat_lt 1 (length bs)) (fault (record { fault = fail.Trailing; place = spot bs ends 1; stage = stage.File })) (said end (drop 1 bs)))
 
--- what a command's operands refer to: the sorts and operations so far, the sorts of the places, and those of the newest transition's variables
-pub record Setting : Type 0 where
-  pub signature : Sig
-  pub places : List ℕ
-  pub variables : List ℕ
-
--- what a context in memory says
-abbrev pub setting_of : Context → Setting
-setting_of x = record { signature = of x.signature; places = x.places.now; variables = x.variables.now }
-
 -- the operands of the command of a code; the code byte itself has been read, and a weight is one of the given kind
-abbrev pub parse_at : Setting → Kind → Code → List ℕ → ℕ → Read
+abbrev pub parse_at : Context → Kind → Code → List ℕ → ℕ → Read
 parse_at x k code.Sort bs ends = sort_at bs ends
-parse_at x k code.Operation bs ends = operation_at x.signature.sizes bs ends
-parse_at x k code.BagOperation bs ends = bag_operation_at x.signature.sizes bs ends
-parse_at x k code.Place bs ends = place_at x.signature.sizes bs ends
-parse_at x k code.Tokens bs ends = tokens_at x.signature.sizes x.places bs ends
-parse_at x k code.Transition bs ends = transition_at x.signature.sizes bs ends
-parse_at x k code.Guard bs ends = guard_at x.signature x.variables bs ends
-parse_at x k code.InArc bs ends = arc_at x.signature x.places direction.In x.variables bs ends
-parse_at x k code.OutArc bs ends = arc_at x.signature x.places direction.Out x.variables bs ends
+parse_at x k code.Operation bs ends = operation_at x.signature.sizes.now bs ends
+parse_at x k code.BagOperation bs ends = bag_operation_at x.signature.sizes.now bs ends
+parse_at x k code.Place bs ends = place_at x.signature.sizes.now bs ends
+parse_at x k code.Tokens bs ends = tokens_at x.signature.sizes.now x.places.now bs ends
+parse_at x k code.Transition bs ends = transition_at x.signature.sizes.now bs ends
+parse_at x k code.Guard bs ends = guard_at (of x.signature) x.variables.now bs ends
+parse_at x k code.InArc bs ends = arc_at (of x.signature) x.places.now direction.In x.variables.now bs ends
+parse_at x k code.OutArc bs ends = arc_at (of x.signature) x.places.now direction.Out x.variables.now bs ends
 parse_at x k code.Claim bs ends = claim_at bs ends
-parse_at x k code.PlaceWeight bs ends = place_weight_at x.places k bs ends
-parse_at x k code.ElementWeight bs ends = element_weight_at x.signature.sizes x.places k bs ends
+parse_at x k code.PlaceWeight bs ends = place_weight_at x.places.now k bs ends
+parse_at x k code.ElementWeight bs ends = element_weight_at x.signature.sizes.now x.places.now k bs ends
 parse_at x k code.End bs ends = end_at bs ends

@@ -1,4 +1,4 @@
 pub mod Commands
 pub mod Order
 pub mod Format
-pub mod Valid
+pub mod Sorted

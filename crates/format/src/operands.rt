@@ -1,10 +1,11 @@
 // The operands of each command, taken apart by slice patterns. Each is checked at its own byte.
 // `ends` is the length of the file, so what is left of it begins at `ends` less its length.
-ghost use Rattle.std.specs.Prelude.{◌≡◌, ◌<◌, length, IfSome, IfOk};
+ghost use Rattle.std.specs.Prelude.{◌≡◌, ℕ, ◌<◌, ◌≤◌, List, length, IfSome, IfOk};
 ghost use Rattle.term.specs.Meaning.{of};
+ghost use Rattle.term.specs.Shape.{Few};
 ghost use Rattle.format.specs.Commands.{said_of, seen};
-ghost use Rattle.format.specs.Format.{arc_at, bag_operation_at, claim_at, combinations, counts_at, element_weight_at, end_at, first_bad, fitting, front_of, guard_at, in_command, mode_count, operation_at, parse_at, parts_of, place_at, place_size, place_weight_at, setting_of, size_of, sort_at, table_at, tokens_at, transition_at, variable_size, variable_sizes};
-ghost use Rattle.format.specs.Valid.{Small, Taken};
+ghost use Rattle.format.specs.Format.{arc_at, bag_operation_at, claim_at, combinations, counts_at, element_weight_at, end_at, first_bad, fitting, front_of, guard_at, in_command, mode_count, operation_at, parse_at, parts_of, place_at, place_size, place_weight_at, size_of, sort_at, table_at, tokens_at, transition_at, variable_size, variable_sizes};
+ghost use Rattle.format.specs.Sorted.{Plain, SaidSorted};
 
 use crate::command::{Code, Command, Direction};
 use domain::Kind;
@@ -77,7 +78,9 @@ fn first_bad(bytes: &[u8], size: u8) -> Option<usize>
 
 // size, 1 to 64
 fn sort<'f>(bytes: &'f [u8], ends: usize) -> Parsed<'f>
-    ensures { seen result ≡ sort_at bytes.now ends }
+    ensures value { seen result ≡ sort_at bytes.now ends }
+    ensures shorter { IfOk result (λ x. length x.1.now < length bytes.now) }
+    ensures plain { IfOk result (λ x. Plain (said_of x.0)) }
 {
     let at = ends.saturating_sub(bytes.len());
     match bytes {
@@ -94,18 +97,19 @@ fn table<'f>(
     count: usize,
     size: u8,
 ) -> Result<(&'f [u8], &'f [u8]), FileFault>
-    ensures { parts_of result ≡ table_at bytes.now ends count size }
+    ensures value { parts_of result ≡ table_at bytes.now ends count size }
+    ensures within { IfOk result (λ x. length x.1.now ≤ length bytes.now) }
 {
     let at = ends.saturating_sub(bytes.len());
     let here = count.min(bytes.len());
-    let (entries, rest) = bytes.split_at(here);
-    match first_bad(entries, size) {
+    let (table, rest) = bytes.split_at(here);
+    match first_bad(table, size) {
         Some(i) => Err(refused(Fault::Range, at + i)),
         None => {
             if here < count {
                 return Err(refused(Fault::Ends, ends));
             }
-            Ok((entries, rest))
+            Ok((table, rest))
         }
     }
 }
@@ -129,7 +133,9 @@ fn rows(sizes: &[u8], arity: u8, first: u8, second: u8) -> usize
 
 // number of arguments, two argument sorts, result sort, one result for each combination of arguments
 fn operation<'f>(sizes: &[u8], bytes: &'f [u8], ends: usize) -> Parsed<'f>
-    ensures { seen result ≡ operation_at sizes.now bytes.now ends }
+    ensures value { seen result ≡ operation_at sizes.now bytes.now ends }
+    ensures shorter { IfOk result (λ x. length x.1.now < length bytes.now) }
+    ensures plain { IfOk result (λ x. Plain (said_of x.0)) }
 {
     let at = ends.saturating_sub(bytes.len());
     match bytes {
@@ -168,7 +174,8 @@ fn operation<'f>(sizes: &[u8], bytes: &'f [u8], ends: usize) -> Parsed<'f>
 
 // The next `count` bytes, and what follows them.
 fn counts<'f>(bytes: &'f [u8], ends: usize, count: usize) -> Result<(&'f [u8], &'f [u8]), FileFault>
-    ensures { parts_of result ≡ counts_at bytes.now ends count }
+    ensures value { parts_of result ≡ counts_at bytes.now ends count }
+    ensures within { IfOk result (λ x. length x.1.now ≤ length bytes.now) }
 {
     if bytes.len() < count {
         return Err(refused(Fault::Ends, ends));
@@ -178,7 +185,9 @@ fn counts<'f>(bytes: &'f [u8], ends: usize, count: usize) -> Result<(&'f [u8], &
 
 // argument sort, result sort, for each argument one count for each element of the result sort
 fn bag_operation<'f>(sizes: &[u8], bytes: &'f [u8], ends: usize) -> Parsed<'f>
-    ensures { seen result ≡ bag_operation_at sizes.now bytes.now ends }
+    ensures value { seen result ≡ bag_operation_at sizes.now bytes.now ends }
+    ensures shorter { IfOk result (λ x. length x.1.now < length bytes.now) }
+    ensures plain { IfOk result (λ x. Plain (said_of x.0)) }
 {
     let at = ends.saturating_sub(bytes.len());
     match bytes {
@@ -209,7 +218,9 @@ fn bag_operation<'f>(sizes: &[u8], bytes: &'f [u8], ends: usize) -> Parsed<'f>
 
 // sort
 fn place<'f>(sizes: &[u8], bytes: &'f [u8], ends: usize) -> Parsed<'f>
-    ensures { seen result ≡ place_at sizes.now bytes.now ends }
+    ensures value { seen result ≡ place_at sizes.now bytes.now ends }
+    ensures shorter { IfOk result (λ x. length x.1.now < length bytes.now) }
+    ensures plain { IfOk result (λ x. Plain (said_of x.0)) }
 {
     let at = ends.saturating_sub(bytes.len());
     match bytes {
@@ -222,7 +233,8 @@ fn place<'f>(sizes: &[u8], bytes: &'f [u8], ends: usize) -> Parsed<'f>
 // place, element, two-byte count
 fn tokens<'f>(sizes: &[u8], places: &[u8], bytes: &'f [u8], ends: usize) -> Parsed<'f>
     ensures value { seen result ≡ tokens_at sizes.now places.now bytes.now ends }
-    ensures small { IfOk result (λ x. Small (said_of x.0)) }
+    ensures shorter { IfOk result (λ x. length x.1.now < length bytes.now) }
+    ensures plain { IfOk result (λ x. Plain (said_of x.0)) }
 {
     let at = ends.saturating_sub(bytes.len());
     match bytes {
@@ -275,7 +287,9 @@ pub fn modes(sizes: [u8; 4]) -> u32
 
 // number of variables, four sorts; the modes are counted at the last sort byte
 fn transition<'f>(sizes: &[u8], bytes: &'f [u8], ends: usize) -> Parsed<'f>
-    ensures { seen result ≡ transition_at sizes.now bytes.now ends }
+    ensures value { seen result ≡ transition_at sizes.now bytes.now ends }
+    ensures shorter { IfOk result (λ x. length x.1.now < length bytes.now) }
+    ensures plain { IfOk result (λ x. Plain (said_of x.0)) }
 {
     let at = ends.saturating_sub(bytes.len());
     match bytes {
@@ -317,7 +331,9 @@ fn before<'f>(bytes: &'f [u8], rest: &[u8]) -> &'f [u8]
 
 // a term of sort 0
 fn guard<'f>(s: Signature, variables: &[u8], bytes: &'f [u8], ends: usize) -> Parsed<'f>
-    ensures { seen result ≡ guard_at (of s.entry) variables.now bytes.now ends }
+    ensures value { seen result ≡ guard_at (of s.entry) variables.now bytes.now ends }
+    ensures shorter { IfOk result (λ x. length x.1.now < length bytes.now) }
+    ensures sorted { IfOk result (λ x. Few (of s.entry) → (p : List ℕ) → SaidSorted (of s.entry) p variables.now (said_of x.0)) }
 {
     match bytes {
         [_, term @ ..] => match check_term(s, variables, term, ends, DEPTH, 0) {
@@ -342,7 +358,9 @@ fn arc<'f>(
     bytes: &'f [u8],
     ends: usize,
 ) -> Parsed<'f>
-    ensures { seen result ≡ arc_at (of s.entry) places.now direction variables.now bytes.now ends }
+    ensures value { seen result ≡ arc_at (of s.entry) places.now direction variables.now bytes.now ends }
+    ensures shorter { IfOk result (λ x. length x.1.now < length bytes.now) }
+    ensures sorted { IfOk result (λ x. Few (of s.entry) → SaidSorted (of s.entry) places.now variables.now (said_of x.0)) }
 {
     let at = ends.saturating_sub(bytes.len());
     match bytes {
@@ -368,7 +386,8 @@ fn arc<'f>(
 // kind, 1 to 6, two-byte modulus, which is 0 but for kind 4
 fn claim<'f>(bytes: &'f [u8], ends: usize) -> Parsed<'f>
     ensures value { seen result ≡ claim_at bytes.now ends }
-    ensures small { IfOk result (λ x. Small (said_of x.0)) }
+    ensures shorter { IfOk result (λ x. length x.1.now < length bytes.now) }
+    ensures plain { IfOk result (λ x. Plain (said_of x.0)) }
 {
     let at = ends.saturating_sub(bytes.len());
     match bytes {
@@ -392,7 +411,9 @@ fn claim<'f>(bytes: &'f [u8], ends: usize) -> Parsed<'f>
 
 // place, four-byte signed code
 fn place_weight<'f>(places: &[u8], kind: Kind, bytes: &'f [u8], ends: usize) -> Parsed<'f>
-    ensures { seen result ≡ place_weight_at places.now kind bytes.now ends }
+    ensures value { seen result ≡ place_weight_at places.now kind bytes.now ends }
+    ensures shorter { IfOk result (λ x. length x.1.now < length bytes.now) }
+    ensures plain { IfOk result (λ x. Plain (said_of x.0)) }
 {
     let at = ends.saturating_sub(bytes.len());
     match bytes {
@@ -422,7 +443,9 @@ fn element_weight<'f>(
     bytes: &'f [u8],
     ends: usize,
 ) -> Parsed<'f>
-    ensures { seen result ≡ element_weight_at sizes.now places.now kind bytes.now ends }
+    ensures value { seen result ≡ element_weight_at sizes.now places.now kind bytes.now ends }
+    ensures shorter { IfOk result (λ x. length x.1.now < length bytes.now) }
+    ensures plain { IfOk result (λ x. Plain (said_of x.0)) }
 {
     let at = ends.saturating_sub(bytes.len());
     match bytes {
@@ -451,7 +474,9 @@ fn element_weight<'f>(
 
 // nothing, and nothing may follow
 fn end<'f>(bytes: &'f [u8], ends: usize) -> Parsed<'f>
-    ensures { seen result ≡ end_at bytes.now ends }
+    ensures value { seen result ≡ end_at bytes.now ends }
+    ensures shorter { IfOk result (λ x. length x.1.now < length bytes.now) }
+    ensures plain { IfOk result (λ x. Plain (said_of x.0)) }
 {
     let at = ends.saturating_sub(bytes.len());
     match bytes {
@@ -483,8 +508,9 @@ pub fn parse<'f>(
     bytes: &'f [u8],
     ends: usize,
 ) -> Parsed<'f>
-    ensures value { seen result ≡ parse_at (setting_of context.entry) kind code bytes.now ends }
-    ensures taken { IfOk result (λ x. Taken (setting_of context.entry) kind bytes.now (said_of x.0) x.1.now) }
+    ensures value { seen result ≡ parse_at context.entry kind code bytes.now ends }
+    ensures shorter { IfOk result (λ x. length x.1.now < length bytes.now) }
+    ensures sorted { IfOk result (λ x. Few (of context.entry.signature) → SaidSorted (of context.entry.signature) context.entry.places.now context.entry.variables.now (said_of x.0)) }
 {
     let s = context.signature;
     let places = context.places;

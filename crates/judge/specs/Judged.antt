@@ -1,45 +1,41 @@
 -- What judging answers: the verdict, the first mode that breaks a claim, and the number of modes.
-use Rattle.std.specs.Prelude.{◌≡◌, ℕ, zero, suc, ◌+◌, ◌<◌, true, false, cond, List, length, ℤ}
+use Rattle.std.specs.Prelude.{◌≡◌, ℕ, zero, suc, ◌+◌, ◌-◌, ◌^◌, ◌<◌, min, true, cond, List, ℤ, vec_len}
 use Rattle.domain.specs.Meaning.{Meaning}
 use Rattle.format.specs.Format.{mode_count}
 use Rattle.term.specs.Worth.{value_of}
+use Rattle.net.specs.declared.net.Net.{Net}
 use Rattle.net.specs.Nets.{given, guard_holds, mode_of, taken, transition}
-use Rattle.net.specs.System.{SystemNet}
-use Rattle.judge.specs.declared.verdict.Told.{Told}
-use Rattle.judge.specs.declared.verdict.Told.TheVariants as told
 use Rattle.judge.specs.declared.verdict.Verdict.{Verdict}
 use Rattle.judge.specs.declared.verdict.Verdict.TheVariants.{Accepted, Broken}
 
 -- how many modes a transition has, and the mode of a number, the first variable slowest
-abbrev pub modes_of : SystemNet → ℕ → ℕ
+abbrev pub modes_of : Net → ℕ → ℕ
 modes_of n t = mode_count (transition n t).sizes
 
-abbrev pub mode : SystemNet → ℕ → ℕ → List ℕ
+abbrev pub mode : Net → ℕ → ℕ → List ℕ
 mode n t i = mode_of (transition n t).sizes i
 
 -- how many of the first i modes have a true guard
-abbrev pub firing : SystemNet → ℕ → ℕ → ℕ
+unfoldable pub firing : Net → ℕ → ℕ → ℕ
 firing n t zero = 0
 firing n t (suc i) = firing n t i + cond (guard_holds n t (mode n t i)) 1 0
 
 -- how many modes of the first k transitions have a true guard
-abbrev pub number : SystemNet → ℕ → ℕ
+unfoldable pub number : Net → ℕ → ℕ
 number n zero = 0
 number n (suc k) = number n k + firing n k (modes_of n k)
 
-module _ {V : Type 0} (d : Meaning V) (codes : List ℤ) (n : SystemNet) where
+-- a number that is held at the largest of 32 bits; nets that were read stay far below it
+abbrev pub held : ℕ → ℕ
+held k = min k (2 ^ 32 - 1)
+
+module _ {V : Type 0} (d : Meaning V) (codes : List ℤ) (n : Net) where
   -- the values of what a transition takes in a mode, and of what it puts
   abbrev pub before : ℕ → List ℕ → V
   before t m = value_of d codes (taken n t m)
 
   abbrev pub after : ℕ → List ℕ → V
   after t m = value_of d codes (given n t m)
-
-  -- what one mode tells
-  abbrev pub TellsMode : ℕ → List ℕ → Told V → Type 0
-  TellsMode t m told.Idle = guard_holds n t m ≡ false
-  TellsMode t m told.Kept = (guard_holds n t m ≡ true) × d.rel (before t m) (after t m)
-  TellsMode t m (told.Apart v w) = (guard_holds n t m ≡ true) × (v ≡ before t m) × (w ≡ after t m) × (d.rel v w → ⊥)
 
   -- of the first i modes, each with a true guard has related values
   abbrev pub Kept : ℕ → ℕ → Type 0
@@ -62,10 +58,10 @@ module _ {V : Type 0} (d : Meaning V) (codes : List ℤ) (n : SystemNet) where
 
   -- the answer for the transition k
   abbrev pub JudgedModes : ℕ → Verdict V → Type 0
-  JudgedModes k (Accepted c) = (c ≡ firing n k (modes_of n k)) × Kept k (modes_of n k)
+  JudgedModes k (Accepted c) = (c ≡ held (firing n k (modes_of n k))) × Kept k (modes_of n k)
   JudgedModes k (Broken t m v w) = (t ≡ k) × First k m v w
 
   -- the answer for all transitions
   abbrev pub Judged : Verdict V → Type 0
-  Judged (Accepted c) = (c ≡ number n (length n.transitions)) × KeptAll (length n.transitions)
-  Judged (Broken t m v w) = (t < length n.transitions) × KeptAll t × First t m v w
+  Judged (Accepted c) = (c ≡ held (number n (vec_len n.transitions))) × KeptAll (vec_len n.transitions)
+  Judged (Broken t m v w) = (t < vec_len n.transitions) × KeptAll t × First t m v w

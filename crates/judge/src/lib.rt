@@ -5,11 +5,9 @@ mod caps;
 mod kind;
 mod modes;
 mod outcomes;
-mod surveys;
 mod verdict;
 
 pub use caps::cap;
-pub use kind::{cap_by_kind, judge_by_kind};
+pub use kind::{cap_by_kind, judge_by_kind, survey};
 pub use modes::judge;
-pub use surveys::survey;
 pub use verdict::{Outcome, Verdict};

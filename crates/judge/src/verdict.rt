@@ -13,15 +13,7 @@ pub enum Verdict<V> {
     },
 }
 
-// What one mode tells: its guard is false, its values before and after are related, or they are not.
-#[derive(Drop)]
-pub(crate) enum Told<V> {
-    Idle,
-    Kept,
-    Apart(V, V),
-}
-
-// A verdict by kind, without the values.
+// The same by kind, without the values.
 #[derive(Clone, Copy, PartialEq, Eq, Debug)]
 pub enum Outcome {
     Accepted { modes: u32 },

@@ -1,64 +1,62 @@
-ghost use Rattle.std.specs.Prelude.{◌≡◌, ◌<◌, length, IfOk, Ok, Err, OnOk};
-ghost use Rattle.net.specs.Of.{net_of};
-ghost use Rattle.net.specs.Reading.{Reads, answered, bad, empty, step as step_of_lem, told};
-ghost use Rattle.net.specs.Reading.{net as net-told};
-ghost use Rattle.net.specs.Room.{Partial, Room};
-ghost use Rattle.net.specs.System.{system};
+ghost use Rattle.std.specs.Prelude.{◌<◌, length, OnOk};
 
 use crate::net::Net;
-use crate::parts::Parts;
 use format::{Code, Command, Order, parse, refused};
-use std::alloc::{AllocError, Global};
+use std::alloc::AllocError;
 use term::{Fault, FileFault, Stage};
 
 // The longest file.
 pub const LONGEST: usize = 65536;
 
-impl Net {
-    // The empty net, with room for any other.
-    pub fn new(heap: Global) -> Result<Net, AllocError>
-        ensures { IfOk result (λ n. net_of n ≡ empty) }
-    {
-        let parts = Parts::new(heap)?;
-        Ok(Net { parts })
+// Why a net was not read: a fault in its file, or want of memory.
+#[derive(Clone, Copy, Debug)]
+pub enum ReadError {
+    File(FileFault),
+    Memory,
+}
+
+impl From<FileFault> for ReadError {
+    fn from(f: FileFault) -> ReadError {
+        ReadError::File(f)
+    }
+}
+
+impl From<AllocError> for ReadError {
+    fn from(_e: AllocError) -> ReadError {
+        ReadError::Memory
     }
 }
 
 // How far a file has been read: the order of its sections, and what is left.
 #[derive(Drop)]
-struct Reader<'f> {
+pub struct Reader<'f> {
     order: Order,
     rest: &'f [u8],
     ends: usize,
 }
 
 impl<'f> Reader<'f> {
-    // Reads the next command and carries it out. False at the end.
-    fn step(&mut self, parts: &mut Parts) -> Result<bool, FileFault>
-        requires { (Room parts.old) × (Partial (system parts.old) (length self.old.rest.now)) }
-        ensures value { answered result self.new.order.section (system parts.new) self.new.rest.now ≡ step_of_lem self.old.order.section (system parts.old) self.old.rest.now self.old.ends }
-        ensures partial { OnOk result (Partial (system parts.new) (length self.new.rest.now)) }
-        ensures shorter { OnOk result (length self.new.rest.now < length self.old.rest.now) }
-        ensures same { self.new.ends ≡ self.old.ends }
-        ensures room { Room parts.new }
+    // Reads the next command and carries it out on the net. False at the end.
+    fn step(&mut self, net: &mut Net) -> Result<bool, ReadError>
+        ensures { OnOk result (length self.new.rest.now < length self.old.rest.now) }
     {
         let bytes = self.rest;
         let ends = self.ends;
         let at = ends.saturating_sub(bytes.len());
         let [byte, ..] = bytes else {
-            return Err(refused(Fault::Ends, ends));
+            return Err(ReadError::File(refused(Fault::Ends, ends)));
         };
         let Some(code) = Code::of(*byte) else {
-            return Err(refused(Fault::NoCommand, at));
+            return Err(ReadError::File(refused(Fault::NoCommand, at)));
         };
         if !self.order.enter(code) {
-            return Err(refused(Fault::Order, at));
+            return Err(ReadError::File(refused(Fault::Order, at)));
         }
-        if parts.is_full(code) {
-            return Err(refused(Fault::Limit, at));
+        if net.is_full(code) {
+            return Err(ReadError::File(refused(Fault::Limit, at)));
         }
-        let (command, rest) = parse(parts.context(), parts.last_kind(), code, bytes, ends)?;
-        parts.carry_out(command);
+        let (command, rest) = parse(net.context(), net.last_kind(), code, bytes, ends)?;
+        net.carry_out(command)?;
         self.rest = rest;
         match command {
             Command::End => Ok(false),
@@ -67,38 +65,30 @@ impl<'f> Reader<'f> {
     }
 }
 
-// Carries out every command of a file on the parts of the empty net.
-fn fill(parts: &mut Parts, file: &[u8]) -> Result<(), FileFault>
-    requires { Room parts.old }
-    ensures value { elim result [ Ok _ ↦ told file.now ≡ net-told (system parts.new) | Err e ↦ told file.now ≡ bad e ] }
-    ensures room { Room parts.new }
-{
+// Carries out every command of a file.
+fn fill(net: &mut Net, file: &[u8]) -> Result<(), ReadError> {
     if file.len() > LONGEST {
-        return Err(FileFault {
+        return Err(ReadError::File(FileFault {
             fault: Fault::TooLong,
             place: LONGEST,
             stage: Stage::File,
-        });
+        }));
     }
-    parts.clear();
     let mut reader = Reader {
         order: Order::new(),
         rest: file,
         ends: file.len(),
     };
     'commands: loop {
-        if !reader.step(parts)? {
+        if !reader.step(net)? {
             return Ok(());
         }
     }
 }
 
-// Fills the parts of a net from a file. A fault leaves those of the empty net there.
-fn load(net: &mut Parts, file: &[u8]) -> Result<(), FileFault>
-    requires { Room net.old }
-    ensures value { Reads result file.now (system net.new) }
-    ensures room { Room net.new }
-{
+// Fills the caller's net from a file. A fault leaves the empty net there.
+pub fn read(net: &mut Net, file: &[u8]) -> Result<(), ReadError> {
+    net.clear();
     match fill(net, file) {
         Ok(()) => Ok(()),
         Err(e) => {
@@ -106,11 +96,4 @@ fn load(net: &mut Parts, file: &[u8]) -> Result<(), FileFault>
             Err(e)
         }
     }
-}
-
-// Fills the caller's net from a file. A fault leaves the empty net there.
-pub fn read(net: &mut Net, file: &[u8]) -> Result<(), FileFault>
-    ensures { Reads result file.now (net_of net.new) }
-{
-    load(&mut net.parts, file)
 }

@@ -3,10 +3,11 @@
 
 mod report;
 
+use anyhow::anyhow;
 use bench::Firing;
 use judge::{Outcome, survey};
 use lent::list::LentList;
-use net::{CELLS, Net, read};
+use net::{CELLS, Net, ReadError, read};
 use report::{add_cells, add_claim, add_fault, add_replay};
 use std::alloc::{AllocError, Global};
 use std::fs;
@@ -65,7 +66,8 @@ fn run(rt: &HostRuntime) -> anyhow::Result<String> {
             add_claims(&net, &mut text)?;
             add_trace(heap, &net, bytes.as_slice(), &mut text)?;
         }
-        Err(fault) => add_fault(&mut text, fault)?,
+        Err(ReadError::File(fault)) => add_fault(&mut text, fault)?,
+        Err(ReadError::Memory) => return Err(anyhow!("out of memory")),
     }
     Ok(text)
 }

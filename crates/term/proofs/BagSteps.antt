@@ -1,5 +1,5 @@
 -- One turn of the check of a bag, by its code.
-use Rattle.std.proofs.Common.{◌≡◌, ℕ, zero, suc, ◌-◌, ◌<◌, ◌≤◌, Bool, true, false, cond, ◌&&◌, eqb, ltb, leb, List, [], length, get_or, drop, sym, refl, ap, ◌∙◌, arith, lt-ltb, eq-eqb}
+use Rattle.std.proofs.Common.{◌≡◌, ℕ, zero, suc, ◌-◌, ◌<◌, ◌≤◌, Bool, true, false, ◌&&◌, eqb, ltb, leb, List, length, get_or, drop, sym, ap, ◌∙◌, arith, lt-ltb, eq-eqb}
 use Rattle.std.proofs.lemmas.Bool.Decides.{nat_tests}
 use Rattle.term.specs.declared.fault.Fault.TheVariants as fault
 use Rattle.term.specs.Check.{Checked, bad, bag_front, check_bag, check_term, done, flexible_at, in_term, place, then}
@@ -7,14 +7,14 @@ use Rattle.term.specs.Meaning.{Sig, bag_operation, bag_sorted, sorted}
 use Rattle.term.specs.Prefix.{bag_at, term_at}
 use Rattle.term.specs.Shape.{Flexible, Passed, PassedBag}
 use Rattle.term.proofs.Shapes.{both_true}
-use Rattle.term.proofs.Turns.{at-empty, at-flexible, at-single, at_sum}
+use Rattle.term.proofs.Turns.{at_empty, at_flexible, at_single, at_sum}
 
 module _ (s : Sig) (t : ℕ → List ℕ → Checked) (b : List ℕ → Checked) (deep : Bool) (want : ℕ) (bs : List ℕ) (ends : ℕ) where
   front_ends : length bs ≡ 0 → bag_front s t b deep want bs ends ≡ bad (in_term fault.Ends ends)
   front_ends h = let e : ltb 0 (length bs) ≡ false = grind (arith, nat_tests) in rw e
 
-  front-unknown : 0 < length bs → (0x30 ≤ get_or bs 0 0 → get_or bs 0 0 ≤ 0x33 → ⊥) → bag_front s t b deep want bs ends ≡ bad (in_term fault.NoCommand (place bs ends 0))
-  front-unknown h n =
+  front_unknown : 0 < length bs → (0x30 ≤ get_or bs 0 0 → get_or bs 0 0 ≤ 0x33 → ⊥) → bag_front s t b deep want bs ends ≡ bad (in_term fault.NoCommand (place bs ends 0))
+  front_unknown h n =
       let f : (leb 0x30 (get_or bs 0 0) && leb (get_or bs 0 0) 0x33) ≡ false = grind (arith, nat_tests) in
       rw (lt-ltb 0 (length bs) h, f)
 
@@ -27,20 +27,20 @@ module _ (s : Sig) (vars : List ℕ) (ends want : ℕ) (bs : List ℕ) where
   turn zero h = let z : ⊥ = omega arith in absurd z
   turn (suc d) h = let e : d ≡ suc d - 1 = omega arith in ap (λ (k : ℕ). bag_front s (check_term s vars ends k) (check k) false want bs ends) e
 
-  pub ends-here : (d : ℕ) → length bs ≡ 0 → bad (in_term fault.Ends ends) ≡ check d bs
+  pub ends_here : (d : ℕ) → length bs ≡ 0 → bad (in_term fault.Ends ends) ≡ check d bs
   unfolding check_bag
-  ends-here zero h = sym (front_ends s (λ t r. done r) (λ r. done r) true want bs ends h)
-  ends-here (suc d) h = sym (front_ends s (check_term s vars ends d) (check d) false want bs ends h)
+  ends_here zero h = sym (front_ends s (λ t r. done r) (λ r. done r) true want bs ends h)
+  ends_here (suc d) h = sym (front_ends s (check_term s vars ends d) (check d) false want bs ends h)
 
   pub unknown : (d : ℕ) → 0 < length bs → (0x30 ≤ get_or bs 0 0 → get_or bs 0 0 ≤ 0x33 → ⊥) → bad (in_term fault.NoCommand (place bs ends 0)) ≡ check d bs
   unfolding check_bag
-  unknown zero h n = sym (front-unknown s (λ t r. done r) (λ r. done r) true want bs ends h n)
-  unknown (suc d) h n = sym (front-unknown s (check_term s vars ends d) (check d) false want bs ends h n)
+  unknown zero h n = sym (front_unknown s (λ t r. done r) (λ r. done r) true want bs ends h n)
+  unknown (suc d) h n = sym (front_unknown s (check_term s vars ends d) (check d) false want bs ends h n)
 
-  pub too-deep : (d : ℕ) → d ≡ 0 → 0 < length bs → 0x30 ≤ get_or bs 0 0 → get_or bs 0 0 ≤ 0x33 → bad (in_term fault.Deep (place bs ends 0)) ≡ check d bs
+  pub too_deep : (d : ℕ) → d ≡ 0 → 0 < length bs → 0x30 ≤ get_or bs 0 0 → get_or bs 0 0 ≤ 0x33 → bad (in_term fault.Deep (place bs ends 0)) ≡ check d bs
   unfolding check_bag
-  too-deep zero e h l u = let f : (leb 0x30 (get_or bs 0 0) && leb (get_or bs 0 0) 0x33) ≡ true = grind (arith, nat_tests) in sym (rw (lt-ltb 0 (length bs) h, f))
-  too-deep (suc d) e h l u = let z : ⊥ = omega arith in absurd z
+  too_deep zero e h l u = let f : (leb 0x30 (get_or bs 0 0) && leb (get_or bs 0 0) 0x33) ≡ true = grind (arith, nat_tests) in sym (rw (lt-ltb 0 (length bs) h, f))
+  too_deep (suc d) e h l u = let z : ⊥ = omega arith in absurd z
 
   module _ (d : ℕ) (deep : 0 < d) (h : 0 < length bs) where
     within : (c : ℕ) → 0x30 ≤ c → c ≤ 0x33 → get_or bs 0 0 ≡ c → (leb 0x30 (get_or bs 0 0) && leb (get_or bs 0 0) 0x33) ≡ true
@@ -49,37 +49,37 @@ module _ (s : Sig) (vars : List ℕ) (ends want : ℕ) (bs : List ℕ) where
     other : (c k : ℕ) → get_or bs 0 0 ≡ c → (c ≡ k → ⊥) → eqb (get_or bs 0 0) k ≡ false
     other c k e n = grind (arith, nat_tests)
 
-    pub empty-bag : get_or bs 0 0 ≡ 0x30 → done (drop 1 bs) ≡ check d bs
-    empty-bag e = sym (turn d deep ∙ rw (lt-ltb 0 (length bs) h, within 0x30 (omega arith) (omega arith) e, eq-eqb _ _ e))
+    pub empty_bag : get_or bs 0 0 ≡ 0x30 → done (drop 1 bs) ≡ check d bs
+    empty_bag e = sym (turn d deep ∙ rw (lt-ltb 0 (length bs) h, within 0x30 (omega arith) (omega arith) e, eq-eqb _ _ e))
 
-    pub single-bag : get_or bs 0 0 ≡ 0x31 → check_term s vars ends (d - 1) want (drop 1 bs) ≡ check d bs
-    single-bag e = sym (turn d deep ∙ rw (lt-ltb 0 (length bs) h, within 0x31 (omega arith) (omega arith) e, other 0x31 0x30 e (λ x. omega arith), eq-eqb _ _ e))
+    pub single_bag : get_or bs 0 0 ≡ 0x31 → check_term s vars ends (d - 1) want (drop 1 bs) ≡ check d bs
+    single_bag e = sym (turn d deep ∙ rw (lt-ltb 0 (length bs) h, within 0x31 (omega arith) (omega arith) e, other 0x31 0x30 e (λ x. omega arith), eq-eqb _ _ e))
 
-    pub sum-bag : get_or bs 0 0 ≡ 0x32 → then (check (d - 1) (drop 1 bs)) (check (d - 1)) ≡ check d bs
-    sum-bag e =
+    pub sum_bag : get_or bs 0 0 ≡ 0x32 → then (check (d - 1) (drop 1 bs)) (check (d - 1)) ≡ check d bs
+    sum_bag e =
         sym (turn d deep ∙ rw (lt-ltb 0 (length bs) h, within 0x32 (omega arith) (omega arith) e, other 0x32 0x30 e (λ x. omega arith), other 0x32 0x31 e (λ x. omega arith), eq-eqb _ _ e))
 
-    pub flexible-bag : get_or bs 0 0 ≡ 0x33 → flexible_at s (check_term s vars ends (d - 1)) want bs ends ≡ check d bs
-    flexible-bag e =
+    pub flexible_bag : get_or bs 0 0 ≡ 0x33 → flexible_at s (check_term s vars ends (d - 1)) want bs ends ≡ check d bs
+    flexible_bag e =
         sym (turn d deep ∙ rw (lt-ltb 0 (length bs) h, within 0x33 (omega arith) (omega arith) e, other 0x33 0x30 e (λ x. omega arith), other 0x33 0x31 e (λ x. omega arith), other 0x33 0x32 e (λ x. omega arith)))
 
-    pub passed-empty : get_or bs 0 0 ≡ 0x30 → PassedBag s vars d want bs (drop 1 bs)
-    passed-empty e = let q = at-empty s d bs deep h e in (sym (ap (λ y. y.1) q), ap (λ y. bag_sorted s vars want y.0) q)
+    pub passed_empty : get_or bs 0 0 ≡ 0x30 → PassedBag s vars d want bs (drop 1 bs)
+    passed_empty e = let q = at_empty s d bs deep h e in (sym (ap (λ y. y.1) q), ap (λ y. bag_sorted s vars want y.0) q)
 
-    pub passed-single : (r : List ℕ) → get_or bs 0 0 ≡ 0x31 → Passed s vars (d - 1) want (drop 1 bs) r → PassedBag s vars d want bs r
-    passed-single r e p = let q = at-single s d bs deep h e in (p.0 ∙ sym (ap (λ y. y.1) q), ap (λ y. bag_sorted s vars want y.0) q ∙ p.1)
+    pub passed_single : (r : List ℕ) → get_or bs 0 0 ≡ 0x31 → Passed s vars (d - 1) want (drop 1 bs) r → PassedBag s vars d want bs r
+    passed_single r e p = let q = at_single s d bs deep h e in (p.0 ∙ sym (ap (λ y. y.1) q), ap (λ y. bag_sorted s vars want y.0) q ∙ p.1)
 
-    pub passed-sum : (r u : List ℕ) → get_or bs 0 0 ≡ 0x32 → PassedBag s vars (d - 1) want (drop 1 bs) r → PassedBag s vars (d - 1) want r u → PassedBag s vars d want bs u
-    passed-sum r u e p v =
+    pub passed_sum : (r u : List ℕ) → get_or bs 0 0 ≡ 0x32 → PassedBag s vars (d - 1) want (drop 1 bs) r → PassedBag s vars (d - 1) want r u → PassedBag s vars d want bs u
+    passed_sum r u e p v =
         let q = at_sum s d bs deep h e in
         let same = p.0 in (
           v.0 ∙ ap (λ y. (bag_at s (d - 1) y).1) same ∙ sym (ap (λ y. y.1) q),
           ap (λ y. bag_sorted s vars want y.0) q ∙ both_true _ _ p.1 (ap (λ y. bag_sorted s vars want (bag_at s (d - 1) y).0) (sym same) ∙ v.1),
         )
 
-    pub passed-flexible : (a : ℕ) (r u : List ℕ) → get_or bs 0 0 ≡ 0x33 → Flexible s want bs a r → Passed s vars (d - 1) a r u → PassedBag s vars d want bs u
-    passed-flexible a r u e f p =
-        let q = at-flexible s d bs deep f.long e in
+    pub passed_flexible : (a : ℕ) (r u : List ℕ) → get_or bs 0 0 ≡ 0x33 → Flexible s want bs a r → Passed s vars (d - 1) a r u → PassedBag s vars d want bs u
+    passed_flexible a r u e f p =
+        let q = at_flexible s d bs deep f.long e in
         let k = get_or bs 1 0 in
         let same = f.rest in (
           p.0 ∙ ap (λ y. (term_at s (d - 1) y).1) same ∙ sym (ap (λ y. y.1) q),

@@ -1,11 +1,6 @@
 pub mod BagSteps
-pub mod Below
-pub mod Cells
 pub mod Cuts
 pub mod Loads
-pub mod Many
-pub mod Passes
-pub mod Rows
 pub mod Shapes
 pub mod Steps
 pub mod Sums

@@ -1,12 +1,12 @@
 -- A bag has few tokens for its bytes, whatever the bytes are.
-use Rattle.std.proofs.Common.{◌≡◌, ℕ, zero, suc, ◌+◌, ◌-◌, ◌*◌, ◌<◌, ◌≤◌, Bool, true, false, cond, ◌&&◌, eqb, ltb, List, length, get_or, drop, refl, arith, length-drop}
+use Rattle.std.proofs.Common.{◌≡◌, ℕ, zero, suc, ◌+◌, ◌*◌, ◌<◌, ◌≤◌, Bool, true, false, cond, eqb, List, length, get_or, drop, refl, arith, length-drop}
 use Rattle.std.proofs.lemmas.Bool.Decides.{nat_tests}
-use Rattle.term.specs.Meaning.{Sig, apply, both, constant, empty, equal, flexible, negate, operation, single, sum, variable}
-use Rattle.term.specs.Prefix.{Read, ReadBag, applied, bag_at, begins, missing, one, term_at, two}
+use Rattle.term.specs.Meaning.{Sig, operation}
+use Rattle.term.specs.Prefix.{Read, ReadBag, bag_at, begins, term_at}
 use Rattle.term.specs.Worth.{most}
 
 -- whichever way a choice goes
-pub choose : {X : Type 0} (P : X → Type 0) (b : Bool) (x y : X) → (b ≡ true → P x) → (b ≡ false → P y) → P (cond b x y)
+choose : {X : Type 0} (P : X → Type 0) (b : Bool) (x y : X) → (b ≡ true → P x) → (b ≡ false → P y) → P (cond b x y)
 choose P true x y p q = p refl
 choose P false x y p q = q refl
 
@@ -15,16 +15,16 @@ some k n bs e = grind (arith, nat_tests, e)
 
 module _ (s : Sig) where
   -- what follows a term is no longer than the bytes
-  pub rest-short : (d : ℕ) (bs : List ℕ) → length (term_at s d bs).1 ≤ length bs
+  pub rest_short : (d : ℕ) (bs : List ℕ) → length (term_at s d bs).1 ≤ length bs
   unfolding term_at
-  rest-short zero bs = omega arith
-  rest-short (suc d) bs =
+  rest_short zero bs = omega arith
+  rest_short (suc d) bs =
       let P : Read → Type 0 = λ r. length r.1 ≤ length bs in
       let p = term_at s d in
       let l1 = length-drop 1 bs in
       let l2 = length-drop 2 bs in
       let l3 = length-drop 3 bs in
-      let after : (xs : List ℕ) → length xs ≤ length bs → length (p xs).1 ≤ length bs = λ xs h. let r = rest-short d xs in omega arith in
+      let after : (xs : List ℕ) → length xs ≤ length bs → length (p xs).1 ≤ length bs = λ xs h. let r = rest_short d xs in omega arith in
       let twice : (xs : List ℕ) → length xs ≤ length bs → length (p (p xs).1).1 ≤ length bs = λ xs h. after (p xs).1 (after xs h) in
       choose P (begins 0x20 1 bs) _ _ (λ e. omega arith) (λ e1.
       choose P (begins 0x21 2 bs) _ _ (λ e. omega arith) (λ e2.
@@ -36,16 +36,16 @@ module _ (s : Sig) where
       choose P (begins 0x25 0 bs) _ _ (λ e. twice (drop 1 bs) (omega arith)) (λ e6. omega arith))))))
 
   -- at most 65,025 tokens for each byte
-  pub few-tokens : (d : ℕ) (bs : List ℕ) → most (bag_at s d bs).0 + 65025 * length (bag_at s d bs).1 ≤ 65025 * length bs
+  pub few_tokens : (d : ℕ) (bs : List ℕ) → most (bag_at s d bs).0 + 65025 * length (bag_at s d bs).1 ≤ 65025 * length bs
   unfolding bag_at
-  few-tokens zero bs = omega arith
-  few-tokens (suc d) bs =
+  few_tokens zero bs = omega arith
+  few_tokens (suc d) bs =
       let P : ReadBag → Type 0 = λ r. most r.0 + 65025 * length r.1 ≤ 65025 * length bs in
       let p = term_at s d in
       let q = bag_at s d in
       let l1 = length-drop 1 bs in
       let l2 = length-drop 2 bs in
       choose P (begins 0x30 0 bs) _ _ (λ e. omega arith) (λ e1.
-      choose P (begins 0x31 0 bs) _ _ (λ e. let h = some 0x31 0 bs e in let r = rest-short d (drop 1 bs) in omega arith) (λ e2.
-      choose P (begins 0x32 0 bs) _ _ (λ e. let a = few-tokens d (drop 1 bs) in let b = few-tokens d (q (drop 1 bs)).1 in omega arith) (λ e3.
-      choose P (begins 0x33 1 bs) _ _ (λ e. let h = some 0x33 1 bs e in let r = rest-short d (drop 2 bs) in omega arith) (λ e4. omega arith))))
+      choose P (begins 0x31 0 bs) _ _ (λ e. let h = some 0x31 0 bs e in let r = rest_short d (drop 1 bs) in omega arith) (λ e2.
+      choose P (begins 0x32 0 bs) _ _ (λ e. let a = few_tokens d (drop 1 bs) in let b = few_tokens d (q (drop 1 bs)).1 in omega arith) (λ e3.
+      choose P (begins 0x33 1 bs) _ _ (λ e. let h = some 0x33 1 bs e in let r = rest_short d (drop 2 bs) in omega arith) (λ e4. omega arith))))

@@ -1,6 +1,5 @@
 -- Counts to which bags are added one after the other.
-use Rattle.std.proofs.Common.{◌≡◌, ℕ, ◌+◌, ◌-◌, ◌^◌, ◌<◌, ◌≤◌, min, Bool, true, false, cond, eqb, ltb, List, length, get_or, set, sym, refl, ap, ◌∙◌, arith, get_or-set_other, get_or-set_same, eq-eqb, eqb-true}
-use borrow.Author.Tests.{eqb-false}
+use Rattle.std.proofs.Common.{◌≡◌, ℕ, ◌+◌, ◌-◌, ◌^◌, ◌<◌, min, Bool, true, false, cond, eqb, ltb, List, length, get_or, refl, ap, ◌∙◌, arith}
 use Rattle.std.proofs.lemmas.Bool.Decides.{nat_tests}
 use Rattle.term.specs.Counts.{Added}
 
@@ -18,29 +17,12 @@ after a b c base f g l p q = record {
   row = λ e h. let x = p.row e h in let y = q.row e (omega arith) in grind (arith, x, y);
 }
 
--- the same of the counts that there are, added
-pub alike : (a b : List ℕ) (base : ℕ) (f g : ℕ → ℕ) → ((e : ℕ) → base + e < length a → f e ≡ g e) → Added a b base f → Added a b base g
+-- the same, added
+pub alike : (a b : List ℕ) (base : ℕ) (f g : ℕ → ℕ) → ((e : ℕ) → f e ≡ g e) → Added a b base f → Added a b base g
 alike a b base f g same p = record {
   below = p.below;
-  row = λ e h. p.row e h ∙ ap (λ n. min (get_or a (base + e) 0 + n) (2 ^ 32 - 1)) (same e h);
+  row = λ e h. p.row e h ∙ ap (λ n. min (get_or a (base + e) 0 + n) (2 ^ 32 - 1)) (same e);
 }
-
--- n is added to one count
-pub one-added : (xs : List ℕ) (base e n r : ℕ) → base + e < length xs → ((i : ℕ) → get_or xs i 0 < 2 ^ 32) → r ≡ min (get_or xs (base + e) 0 + n) (2 ^ 32 - 1)
-    → Added xs (set xs (base + e) r) base (λ i. cond (eqb e i) n 0)
-one-added xs base e n r lt fits is = record {
-  below = λ c h. get_or-set_other xs (base + e) c r 0 (λ z. omega arith);
-  row = λ i h. by_cases i (eqb e i) refl;
-}
-  where
-    by_cases : (i : ℕ) (b : Bool) → eqb e i ≡ b → get_or (set xs (base + e) r) (base + i) 0 ≡ min (get_or xs (base + i) 0 + cond (eqb e i) n 0) (2 ^ 32 - 1)
-    by_cases i true q =
-        let k : e ≡ i = eqb-true e i q in
-        rw (sym k, eq-eqb e e refl, get_or-set_same xs (base + e) r 0 lt) is
-    by_cases i false q =
-        let o = get_or-set_other xs (base + e) (base + i) r 0 (λ z. let k = eqb-false e i q in k (omega arith)) in
-        let f = fits (base + i) in
-        rw (q, o) (omega arith)
 
 -- an element below e, and one more
 pub none_below : (i n : ℕ) → cond (ltb i 0) n 0 ≡ 0

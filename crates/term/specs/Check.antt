@@ -8,7 +8,6 @@ use Rattle.term.specs.declared.fault.Fault.TheVariants as fault
 use Rattle.term.specs.declared.fault.FileFault.{FileFault}
 use Rattle.term.specs.declared.fault.Stage.TheVariants as stage
 use Rattle.term.specs.declared.signature.Operation.{Operation}
-use Rattle.term.specs.declared.signature.BagOperation.{BagOperation}
 use Rattle.term.specs.Meaning.{Sig, bag_operation, operation, size}
 
 -- the front of a term: how many parts follow, of which sorts, and what is left; or a fault

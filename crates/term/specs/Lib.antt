@@ -5,5 +5,3 @@ pub mod Check
 pub mod Shape
 pub mod Counts
 pub mod Worth
-pub mod Tables
-pub mod Lengths

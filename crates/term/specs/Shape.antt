@@ -1,6 +1,6 @@
 -- What a front that passed the check says of the term that it begins.
-use Rattle.std.specs.Prelude.{◌≡◌, ℕ, ◌<◌, ◌≤◌, Bool, true, List, length, drop, slice_index, slice_index_or}
-use Rattle.term.specs.Meaning.{Sig, Bag, Term, bag_operation, bag_sorted, operation, sorted}
+use Rattle.std.specs.Prelude.{◌≡◌, ℕ, ◌<◌, ◌≤◌, true, List, length, drop, slice_index}
+use Rattle.term.specs.Meaning.{Sig, Term, bag_operation, bag_sorted, operation, sorted}
 use Rattle.term.specs.Prefix.{Read, bag_at, front, one, term_at, two}
 
 -- no operation has more than two arguments
@@ -26,7 +26,7 @@ PassedBag s vars d want bs r = (r ≡ (bag_at s d bs).1) × (bag_sorted s vars w
 -- a bag operation over the sort want stands here, with an argument of the sort a at r
 pub record Flexible (s : Sig) (want : ℕ) (bs : List ℕ) (a : ℕ) (r : List ℕ) : Type 0 where
   pub long : 1 < length bs
-  pub known : slice_index_or bs 1 0 < length s.bags
+  pub known : slice_index bs 1 < length s.bags
   pub over : (bag_operation s (slice_index bs 1)).result ≡ want
   pub argument : a ≡ (bag_operation s (slice_index bs 1)).argument
   pub rest : r ≡ drop 2 bs

@@ -1,5 +1,5 @@
 -- Markings and their value in a weight domain.
-use Rattle.std.specs.Prelude.{◌≡◌, ℕ, zero, suc, ◌+◌, ◌-◌, ◌*◌, ◌≤◌, Bool, cond, List, length, ℤ, pos, nat_le, slice_index_or}
+use Rattle.std.specs.Prelude.{◌≡◌, ℕ, zero, suc, ◌+◌, ◌-◌, ◌*◌, ◌≤◌, cond, List, length, ℤ, pos, nat_le, slice_index_or}
 use Rattle.domain.specs.Meaning.{Meaning, copies, largest_sum, largest_weight}
 use Rattle.term.specs.Meaning.{Bag, empty, single, sum, flexible}
 

@@ -1,8 +1,7 @@
-ghost use Rattle.std.specs.Prelude.{◌≡◌, ◌<◌, false, ◌&&◌, ◌==◌, slice_index};
+ghost use Rattle.std.specs.Prelude.{◌≡◌, ◌&&◌, ◌==◌, slice_index};
 ghost use Rattle.term.specs.Meaning.{of, operation as op_of, result as result_of, value as value_of, truth};
-ghost use Rattle.term.specs.Prefix.{begins, term_at};
+ghost use Rattle.term.specs.Prefix.{term_at};
 
-use crate::cursor::Cursor;
 use crate::signature::{Operation, Signature};
 
 // What stands at `i`, 0 past the end.
@@ -12,8 +11,8 @@ pub(crate) fn at(bytes: &[u8], i: usize) -> u8
     if i < bytes.len() { bytes[i] } else { 0 }
 }
 
-fn operation(s: &Signature, k: u8) -> Operation
-    ensures { result ≡ op_of (of s.now) k }
+fn operation(s: Signature, k: u8) -> Operation
+    ensures { result ≡ op_of (of s.entry) k }
 {
     let k = k as usize;
     if k < s.operations.len() {
@@ -30,8 +29,8 @@ fn operation(s: &Signature, k: u8) -> Operation
 }
 
 // What an operation gives at the arguments `a` and `b`.
-fn result(s: &Signature, o: Operation, a: u8, b: u8) -> u8
-    ensures { result ≡ result_of (of s.now) o a b }
+fn result(s: Signature, o: Operation, a: u8, b: u8) -> u8
+    ensures { result ≡ result_of (of s.entry) o a b }
 {
     let width = if o.arity == 2 {
         at(s.sizes, o.second as usize)
@@ -56,67 +55,43 @@ fn both(a: u8, b: u8) -> u8
     if a == 1 && b == 1 { 1 } else { 0 }
 }
 
-// The element that the term at the cursor means in a mode; the cursor moves past the term.
-#[cycle(applied_value)]
-pub fn value(s: &Signature, mode: &[u8; 4], cursor: &mut Cursor, depth: u8) -> u8
-    ensures value { result ≡ value_of (of s.now) mode.now (term_at (of s.now) depth cursor.old.rest.now).0 }
-    ensures rest { cursor.new.rest.now ≡ (term_at (of s.now) depth cursor.old.rest.now).1 }
+// The element that the term at the front of `bytes` means in a mode, and what follows the term.
+pub fn value<'f>(s: Signature, mode: &[u8], bytes: &'f [u8], depth: u8) -> (u8, &'f [u8])
+    ensures value { result.0 ≡ value_of (of s.entry) mode.now (term_at (of s.entry) depth bytes.now).0 }
+    ensures rest { result.1.now ≡ (term_at (of s.entry) depth bytes.now).1 }
 {
     if depth == 0 {
-        return 0;
+        return (0, bytes);
     }
-    match cursor.rest {
-        [0x20, v, rest @ ..] => {
-            cursor.rest = rest;
-            at(mode, *v as usize)
-        }
-        [0x21, _, element, rest @ ..] => {
-            cursor.rest = rest;
-            *element
-        }
-        _ => applied(s, mode, cursor, depth),
-    }
-}
-
-// The same for what is neither a variable nor a constant: apart, so that those two stay fast.
-#[cycle(applied_value)]
-fn applied(s: &Signature, mode: &[u8; 4], cursor: &mut Cursor, depth: u8) -> u8
-    requires deep { 0 < depth }
-    requires inner { (begins 0x20 1 cursor.old.rest.now ≡ false) × (begins 0x21 2 cursor.old.rest.now ≡ false) }
-    ensures value { result ≡ value_of (of s.now) mode.now (term_at (of s.now) depth cursor.old.rest.now).0 }
-    ensures rest { cursor.new.rest.now ≡ (term_at (of s.now) depth cursor.old.rest.now).1 }
-{
-    match cursor.rest {
+    match bytes {
+        [0x20, v, rest @ ..] => (at(mode, *v as usize), rest),
+        [0x21, _, element, rest @ ..] => (*element, rest),
         [0x22, k, rest @ ..] => {
-            cursor.rest = rest;
             let o = operation(s, *k);
             if o.arity == 0 {
-                return result(s, o, 0, 0);
+                return (result(s, o, 0, 0), rest);
             }
-            let a = value(s, mode, cursor, depth - 1);
+            let (a, rest) = value(s, mode, rest, depth - 1);
             if o.arity == 1 {
-                return result(s, o, a, 0);
+                return (result(s, o, a, 0), rest);
             }
-            let b = value(s, mode, cursor, depth - 1);
-            result(s, o, a, b)
+            let (b, rest) = value(s, mode, rest, depth - 1);
+            (result(s, o, a, b), rest)
         }
         [0x23, _, rest @ ..] => {
-            cursor.rest = rest;
-            let a = value(s, mode, cursor, depth - 1);
-            let b = value(s, mode, cursor, depth - 1);
-            same(a, b)
+            let (a, rest) = value(s, mode, rest, depth - 1);
+            let (b, rest) = value(s, mode, rest, depth - 1);
+            (same(a, b), rest)
         }
         [0x24, rest @ ..] => {
-            cursor.rest = rest;
-            let a = value(s, mode, cursor, depth - 1);
-            same(a, 0)
+            let (a, rest) = value(s, mode, rest, depth - 1);
+            (same(a, 0), rest)
         }
         [0x25, rest @ ..] => {
-            cursor.rest = rest;
-            let a = value(s, mode, cursor, depth - 1);
-            let b = value(s, mode, cursor, depth - 1);
-            both(a, b)
+            let (a, rest) = value(s, mode, rest, depth - 1);
+            let (b, rest) = value(s, mode, rest, depth - 1);
+            (both(a, b), rest)
         }
-        _ => 0,
+        _ => (0, bytes),
     }
 }

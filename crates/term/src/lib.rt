@@ -3,19 +3,15 @@
 
 pub mod bag;
 pub mod check;
-pub mod cursor;
 pub mod evaluate;
 pub mod fault;
 pub mod number;
 pub mod signature;
-pub mod slices;
 pub mod weigh;
 
 pub use bag::count_bag;
 pub use check::{check_bag, check_term};
-pub use cursor::Cursor;
 pub use evaluate::value;
 pub use fault::{Fault, FileFault, Stage};
 pub use signature::{BagOperation, Operation, Signature};
-pub use slices::{part, tail};
 pub use weigh::weigh_bag;

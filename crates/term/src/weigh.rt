@@ -1,13 +1,11 @@
-ghost use Rattle.std.specs.Prelude.{◌≡◌, ◌*◌, ◌<◌, length, if◌then◌else◌, nat_eq, slice_index};
+ghost use Rattle.std.specs.Prelude.{◌≡◌, ◌*◌, if◌then◌else◌, nat_eq};
 ghost use Rattle.term.specs.Meaning.{of, copies_in, count};
 ghost use Rattle.term.specs.Prefix.{bag_at};
 ghost use Rattle.term.specs.Worth.{Weighs, most, on_place};
 
 use crate::bag::bag_operation;
-use crate::cursor::Cursor;
 use crate::evaluate::{at, value};
 use crate::signature::{BagOperation, Signature};
-use crate::slices::part;
 use domain::WeightDomain;
 
 // Adds `n` tokens of an element on a place, each of its cell's weight, to a value.
@@ -29,24 +27,9 @@ fn weigh<D: WeightDomain>(
     d.add_copies(&sum, u32::from(n), &weight)
 }
 
-// Adds as many tokens of each element on a place as a row counts, each of its cell's weight, to a value.
-fn weigh_counts<D: WeightDomain>(
-    d: &D,
-    codes: &[i32],
-    place: u8,
-    counts: &[u8],
-    sum: D::Value,
-) -> D::Value
-    requires { length counts.now < 256 }
-    ensures { Weighs (D.meaning d.now) codes.now sum (on_place place (λ e. slice_index counts.now e)) 65025 result }
-{
-    let from = 64 * place as usize;
-    d.add_row(&sum, counts, part(codes, from, counts.len()))
-}
-
 // Adds what a bag operation gives at `argument`, on a place, to a value.
 fn weigh_row<D: WeightDomain>(
-    s: &Signature,
+    s: Signature,
     o: BagOperation,
     argument: u8,
     d: &D,
@@ -54,50 +37,51 @@ fn weigh_row<D: WeightDomain>(
     place: u8,
     sum: D::Value,
 ) -> D::Value
-    ensures { Weighs (D.meaning d.now) codes.now sum (on_place place (copies_in (of s.now) o argument)) 65025 result }
+    ensures { Weighs (D.meaning d.now) codes.now sum (on_place place (copies_in (of s.entry) o argument)) 65025 result }
 {
-    let size = at(s.sizes, o.result as usize) as usize;
-    let row = part(s.tables, o.table as usize + argument as usize * size, size);
-    weigh_counts(d, codes, place, row, sum)
+    let size = at(s.sizes, o.result as usize);
+    let row = o.table as usize + argument as usize * size as usize;
+    let mut sum = sum;
+    for e in 0..size {
+        sum = weigh(d, codes, place, e, at(s.tables, row + e as usize), sum);
+    }
+    sum
 }
 
-// Adds the bag at the cursor, on a place, to a value; the cursor moves past the bag.
-pub fn weigh_bag<D: WeightDomain>(
-    s: &Signature,
-    mode: &[u8; 4],
-    cursor: &mut Cursor,
+// Adds the bag at the front of `bytes`, on a place, to a value, and gives what follows the bag.
+pub fn weigh_bag<'f, D: WeightDomain>(
+    s: Signature,
+    mode: &[u8],
+    bytes: &'f [u8],
     depth: u8,
     d: &D,
     codes: &[i32],
     place: u8,
     sum: D::Value,
-) -> D::Value
-    ensures sum { Weighs (D.meaning d.now) codes.now sum (on_place place (count (of s.now) mode.now (bag_at (of s.now) depth cursor.old.rest.now).0)) (most (bag_at (of s.now) depth cursor.old.rest.now).0) result }
-    ensures rest { cursor.new.rest.now ≡ (bag_at (of s.now) depth cursor.old.rest.now).1 }
+) -> (D::Value, &'f [u8])
+    ensures sum { Weighs (D.meaning d.now) codes.now sum (on_place place (count (of s.entry) mode.now (bag_at (of s.entry) depth bytes.now).0)) (most (bag_at (of s.entry) depth bytes.now).0) result.0 }
+    ensures rest { result.1.now ≡ (bag_at (of s.entry) depth bytes.now).1 }
 {
     if depth == 0 {
-        return sum;
+        return (sum, bytes);
     }
-    match cursor.rest {
-        [0x30, rest @ ..] => {
-            cursor.rest = rest;
-            sum
-        }
+    match bytes {
+        [0x30, rest @ ..] => (sum, rest),
         [0x31, rest @ ..] => {
-            cursor.rest = rest;
-            let element = value(s, mode, cursor, depth - 1);
-            weigh(d, codes, place, element, 1, sum)
+            let (element, rest) = value(s, mode, rest, depth - 1);
+            (weigh(d, codes, place, element, 1, sum), rest)
         }
         [0x32, rest @ ..] => {
-            cursor.rest = rest;
-            let sum = weigh_bag(s, mode, cursor, depth - 1, d, codes, place, sum);
-            weigh_bag(s, mode, cursor, depth - 1, d, codes, place, sum)
+            let (sum, rest) = weigh_bag(s, mode, rest, depth - 1, d, codes, place, sum);
+            weigh_bag(s, mode, rest, depth - 1, d, codes, place, sum)
         }
         [0x33, k, rest @ ..] => {
-            cursor.rest = rest;
-            let argument = value(s, mode, cursor, depth - 1);
-            weigh_row(s, bag_operation(s, *k), argument, d, codes, place, sum)
+            let (argument, rest) = value(s, mode, rest, depth - 1);
+            (
+                weigh_row(s, bag_operation(s, *k), argument, d, codes, place, sum),
+                rest,
+            )
         }
-        _ => sum,
+        _ => (sum, bytes),
     }
 }

@@ -6,7 +6,7 @@ use Rattle.term.specs.declared.fault.Fault.{Fault}
 use Rattle.trace.specs.Moves.{Move, bytes_of}
 use Rattle.trace.specs.Recorded.{Added, Appended, Kept, adding, put_at, refusal}
 use Rattle.trace.specs.declared.recording.OpenRecording.{OpenRecording}
-use Rattle.trace.proofs.Prefixes.{written-more}
+use Rattle.trace.proofs.Prefixes.{written_more}
 
 -- the bytes before, and those written
 pub put_front : (mem : List ℕ) (at : ℕ) (bs : List ℕ) → at ≤ length mem → take (at + length bs) (put_at mem at bs) ≡ take at mem ++ bs
@@ -21,7 +21,7 @@ added o o' mem mem' m (Ok x) h a = record {
   records = λ ms t.
       let l : o.len ≤ length mem = grind (arith, nat_tests) in
       let f = put_front mem o.len (bytes_of m) l in
-      let g = written-more ms m in
+      let g = written_more ms m in
       cc;
 }
 added o o' mem mem' m (Err e) h a = a

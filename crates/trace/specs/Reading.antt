@@ -4,7 +4,7 @@ use Rattle.std.specs.Borrow.{Bor}
 use Rattle.std.specs.List.{between}
 use Rattle.term.specs.Faults.{number_of}
 use Rattle.trace.specs.declared.commands.Command.{Command}
-use Rattle.trace.specs.declared.commands.Stop.{Stop}
+use Rattle.trace.specs.declared.replays.Stop.{Stop}
 use Rattle.trace.specs.Moves.{Move, fire, back, restart, move_of, written}
 
 -- what closes a trace: its end, or a fault at a byte

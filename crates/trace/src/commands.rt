@@ -2,6 +2,7 @@
 ghost use Rattle.std.specs.Prelude.{◌≡◌, length};
 ghost use Rattle.trace.specs.Reading.{Shorter, first_of, seen};
 
+use crate::replays::Stop;
 use term::Fault;
 
 // What a handset did on the bench.
@@ -10,13 +11,6 @@ pub enum Command {
     Fire { transition: u8, mode: [u8; 4] },
     Back,
     Restart,
-}
-
-// Where a replay stopped: the fault, and the cell or the byte that it names, else 0.
-#[derive(Clone, Copy)]
-pub struct Stop {
-    pub fault: Fault,
-    pub place: usize,
 }
 
 // The first command of `bytes` and what follows it, or None at the end. `bytes` are the last of a trace of `ends` bytes.

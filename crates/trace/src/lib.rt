@@ -5,6 +5,6 @@ pub mod commands;
 pub mod recording;
 pub mod replays;
 
-pub use commands::{Command, Stop};
+pub use commands::Command;
 pub use recording::{EndedRecording, OpenRecording};
-pub use replays::{Replayed, replay, replay_recording};
+pub use replays::{Replayed, Stop, replay};

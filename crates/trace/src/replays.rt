@@ -1,12 +1,6 @@
-ghost use Rattle.std.specs.Prelude.{◌≡◌, ◌≤◌, length, Some, None};
-ghost use Rattle.net.specs.Of.{net_of};
-ghost use Rattle.bench.specs.Calls.{lent};
-ghost use Rattle.trace.specs.Carrying.{CarryCalled, Stood, cell_of};
-ghost use Rattle.trace.specs.Moves.{move_of};
-ghost use Rattle.trace.specs.Replaying.{Ran, RecordingCalled, ReplayCalled};
+ghost use Rattle.std.specs.Prelude.{length};
+ghost use Rattle.trace.specs.Steps.{Shorter};
 
-use crate::commands::{Command, Stop, first};
-use crate::recording::EndedRecording;
 use bench::{Counts, Firing, back_on, begin_on, fire_on, measure};
 use lent::list::LentList;
 use net::Net;
@@ -15,6 +9,13 @@ use term::Fault;
 // The longest trace.
 pub const LONGEST: usize = 65536;
 
+// Where a replay stopped: the fault, and the cell or the byte that it names, else 0.
+#[derive(Clone, Copy)]
+pub struct Stop {
+    pub fault: Fault,
+    pub place: usize,
+}
+
 // How many commands were carried out, and the fault that stopped the replay, if any.
 #[derive(Clone, Copy)]
 pub struct Replayed {
@@ -22,87 +23,74 @@ pub struct Replayed {
     pub stop: Option<Stop>,
 }
 
-impl Replayed {
-    // Every command of the trace was carried out.
-    fn done(carried: u32) -> Replayed
-        ensures carried { result.carried ≡ carried }
-        ensures stop { result.stop ≡ None }
-    {
-        Replayed {
-            carried,
-            stop: None,
-        }
-    }
-
-    // A fault came after the commands that were carried out.
-    fn stopped(carried: u32, at: Stop) -> Replayed
-        ensures carried { result.carried ≡ carried }
-        ensures stop { result.stop ≡ Some at }
-    {
-        Replayed {
-            carried,
-            stop: Some(at),
-        }
-    }
-}
-
 // The place that a fault of the bench names.
-fn at_cell(fault: Fault) -> Stop
-    ensures fault { result.fault ≡ fault }
-    ensures place { result.place ≡ cell_of fault }
-{
+fn at_cell(fault: Fault) -> Stop {
     match fault {
         Fault::Lacks(c) | Fault::Full(c) => Stop { fault, place: c },
         _ => Stop { fault, place: 0 },
     }
 }
 
-// Carries one command out on the bench.
-fn carry_out(
+// Carries out the first command of `bytes` and gives what follows it, or None at the end.
+fn step<'f>(
     net: &Net,
     counts: &mut Counts,
     trail: &mut LentList<Firing>,
-    command: Command,
-) -> Result<(), Fault>
-    requires { Stood (net_of net.now) (lent counts.old trail.old) }
-    ensures called { CarryCalled (net_of net.now) (move_of command) (lent counts.old trail.old) (lent counts.new trail.new) result }
-    ensures counts_named { counts.new.cells.ghost_name ≡ counts.old.cells.ghost_name }
-    ensures trail_named { trail.new.items.ghost_name ≡ trail.old.items.ghost_name }
+    bytes: &'f [u8],
+    ends: usize,
+) -> Result<Option<&'f [u8]>, Stop>
+    ensures { Shorter result (length bytes.now) }
 {
-    match command {
-        Command::Fire { transition, mode } => {
-            fire_on(net, counts, trail, transition as usize, mode)
+    let at = ends.saturating_sub(bytes.len());
+    match bytes {
+        [0x40, t, a, b, c, d, rest @ ..] => {
+            match fire_on(net, counts, trail, *t as usize, [*a, *b, *c, *d]) {
+                Ok(()) => Ok(Some(rest)),
+                Err(e) => Err(at_cell(e)),
+            }
         }
-        Command::Back => back_on(net, counts, trail),
-        Command::Restart => {
+        [0x41, rest @ ..] => match back_on(net, counts, trail) {
+            Ok(()) => Ok(Some(rest)),
+            Err(e) => Err(at_cell(e)),
+        },
+        [0x42, rest @ ..] => {
             begin_on(net, counts, trail);
-            Ok(())
+            Ok(Some(rest))
         }
+        [0x4F] => Ok(None),
+        [0x4F, _, ..] => Err(Stop {
+            fault: Fault::Trailing,
+            place: at + 1,
+        }),
+        [] | [0x40, ..] => Err(Stop {
+            fault: Fault::Ends,
+            place: ends,
+        }),
+        [_, ..] => Err(Stop {
+            fault: Fault::NoCommand,
+            place: at,
+        }),
     }
 }
 
 // Carries out the commands of `bytes` in their order up to the first that is turned down.
-fn run(net: &Net, counts: &mut Counts, trail: &mut LentList<Firing>, bytes: &[u8]) -> Replayed
-    requires short { length bytes.now ≤ 65536 }
-    requires stood { Stood (net_of net.now) (lent counts.old trail.old) }
-    ensures ran { Ran (net_of net.now) bytes.now (lent counts.old trail.old) (lent counts.new trail.new) result }
-    ensures stood { Stood (net_of net.now) (lent counts.new trail.new) }
-    ensures counts_named { counts.new.cells.ghost_name ≡ counts.old.cells.ghost_name }
-    ensures trail_named { trail.new.items.ghost_name ≡ trail.old.items.ghost_name }
-{
+fn run(net: &Net, counts: &mut Counts, trail: &mut LentList<Firing>, bytes: &[u8]) -> Replayed {
     let mut rest = bytes;
     let mut carried: u32 = 0;
     'commands: loop {
-        match first(rest, bytes.len()) {
-            Ok(Some((command, next))) => {
-                if let Err(fault) = carry_out(net, counts, trail, command) {
-                    return Replayed::stopped(carried, at_cell(fault));
-                }
+        match step(net, counts, trail, rest, bytes.len()) {
+            Ok(Some(next)) => {
                 rest = next;
-                carried += 1;
+                carried = carried.saturating_add(1);
             }
-            Ok(None) => return Replayed::done(carried),
-            Err(stop) => return Replayed::stopped(carried, stop),
+            Ok(None) => return Replayed {
+                carried,
+                stop: None,
+            },
+            Err(stop) => return Replayed {
+                carried,
+                stop: Some(stop),
+            },
         }
     }
 }
@@ -113,32 +101,18 @@ pub fn replay(
     cells: &mut [u16],
     trail: &mut LentList<Firing>,
     bytes: &[u8],
-) -> Result<Replayed, Fault>
-    ensures { ReplayCalled (net_of net.now) bytes.now cells.old trail.old cells.new trail.new result }
-{
+) -> Result<Replayed, Fault> {
     measure(cells)?;
     let mut counts = Counts::over(cells);
     begin_on(net, &mut counts, trail);
     if bytes.len() > LONGEST {
-        let at = Stop {
-            fault: Fault::TooLong,
-            place: LONGEST,
-        };
-        return Ok(Replayed::stopped(0, at));
+        return Ok(Replayed {
+            carried: 0,
+            stop: Some(Stop {
+                fault: Fault::TooLong,
+                place: LONGEST,
+            }),
+        });
     }
     Ok(run(net, &mut counts, trail, bytes))
-}
-
-// Replays a recording on a new bench in lent memory: the commands put into it, up to the first that is turned down.
-pub fn replay_recording(
-    net: &Net,
-    cells: &mut [u16],
-    trail: &mut LentList<Firing>,
-    ended: &EndedRecording,
-    memory: &[u8],
-) -> Result<Replayed, Fault>
-    ensures { RecordingCalled (net_of net.now) memory.now ended.now cells.old trail.old cells.new trail.new result }
-{
-    let bytes = ended.trace(memory)?;
-    replay(net, cells, trail, bytes)
 }

@@ -1,4 +1,4 @@
-ghost use Rattle.std.specs.Prelude.{◌≡◌, ℕ, ◌+◌, ◌-◌, ◌<◌, ◌≤◌, min, length, Some, None, Ok, Err, ◌≢◌, slice_index};
+ghost use Rattle.std.specs.Prelude.{◌≡◌, ℕ, ◌+◌, ◌-◌, ◌^◌, ◌<◌, ◌≤◌, length, Some, None, Ok, Err, ◌≢◌, slice_index};
 ghost use Rattle.term.specs.declared.fault.Fault.TheVariants.{Memory};
 ghost use Rattle.bench.specs.Counted.{tokens};
 
@@ -36,8 +36,8 @@ impl<'c> Counts<'c> {
     }
 
     // The lowest cell that has less than is to be taken.
-    pub(crate) fn lacking(&self, takes: &[u32; CELLS]) -> Option<usize>
-        ensures { elim result [ Some c ↦ (c < 1024) × (tokens self.now c < slice_index takes.now c) × ((k : ℕ) → k < c → slice_index takes.now k ≤ tokens self.now k) | None ↦ ((k : ℕ) → k < 1024 → (slice_index takes.now k ≤ tokens self.now k) × (tokens self.now k ≤ 65535)) ] }
+    pub fn lacking(&self, takes: &[u32; CELLS]) -> Option<usize>
+        ensures { elim result [ Some c ↦ (c < 1024) × (tokens self.now c < slice_index takes.now c) × ((k : ℕ) → k < c → slice_index takes.now k ≤ tokens self.now k) | None ↦ ((k : ℕ) → k < 1024 → slice_index takes.now k ≤ tokens self.now k) ] }
     {
         let cells: &[u16] = self.cells;
         for c in 0..CELLS {
@@ -49,8 +49,8 @@ impl<'c> Counts<'c> {
     }
 
     // The lowest cell that would pass 65,535 once the tokens are taken and put.
-    pub(crate) fn passing(&self, takes: &[u32; CELLS], puts: &[u32; CELLS]) -> Option<usize>
-        ensures { elim result [ Some c ↦ (c < 1024) × (65535 < tokens self.now c - slice_index takes.now c + slice_index puts.now c) × ((k : ℕ) → k < c → tokens self.now k - slice_index takes.now k + slice_index puts.now k ≤ 65535) | None ↦ ((k : ℕ) → k < 1024 → tokens self.now k - slice_index takes.now k + slice_index puts.now k ≤ 65535) ] }
+    pub fn passing(&self, takes: &[u32; CELLS], puts: &[u32; CELLS]) -> Option<usize>
+        ensures { elim result [ Some c ↦ (c < 1024) × (2 ^ 16 ≤ (tokens self.now c - slice_index takes.now c) + slice_index puts.now c) × ((k : ℕ) → k < c → (tokens self.now k - slice_index takes.now k) + slice_index puts.now k < 2 ^ 16) | None ↦ ((k : ℕ) → k < 1024 → (tokens self.now k - slice_index takes.now k) + slice_index puts.now k < 2 ^ 16) ] }
     {
         let cells: &[u16] = self.cells;
         for c in 0..CELLS {
@@ -63,9 +63,8 @@ impl<'c> Counts<'c> {
     }
 
     // Takes `takes` off the counts and puts `puts` there; what passes 65,535 is held at it.
-    pub(crate) fn shift(&mut self, takes: &[u32; CELLS], puts: &[u32; CELLS])
-        ensures shifted { (k : ℕ) → k < 1024 → tokens self.new k ≡ min (tokens self.old k - slice_index takes.now k + slice_index puts.now k) 65535 }
-        ensures sixteen { (k : ℕ) → k < 1024 → tokens self.old k ≤ 65535 }
+    pub fn shift(&mut self, takes: &[u32; CELLS], puts: &[u32; CELLS])
+        ensures shifted { (k : ℕ) → k < 1024 → (tokens self.old k - slice_index takes.now k) + slice_index puts.now k < 2 ^ 16 → tokens self.new k ≡ (tokens self.old k - slice_index takes.now k) + slice_index puts.now k }
         ensures named { self.new.cells.ghost_name ≡ self.old.cells.ghost_name }
     {
         for c in 0..CELLS {
@@ -75,8 +74,8 @@ impl<'c> Counts<'c> {
     }
 
     // Makes the counts those of a marking.
-    pub(crate) fn reset(&mut self, start: &[u16; CELLS])
-        ensures value { (k : ℕ) → tokens self.new k ≡ slice_index start.now k }
+    pub fn reset(&mut self, start: &[u16; CELLS])
+        ensures value { (k : ℕ) → k < 1024 → tokens self.new k ≡ slice_index start.now k }
         ensures named { self.new.cells.ghost_name ≡ self.old.cells.ghost_name }
     {
         for c in 0..CELLS {

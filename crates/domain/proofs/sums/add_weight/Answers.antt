@@ -1,4 +1,4 @@
-use Rattle.std.proofs.Common.{◌≡◌, w32, SFits, rules}
+use Rattle.std.proofs.Common.{w32, SFits, rules}
 use Rattle.std.proofs.lemmas.Int.{to_z-of_z}
 use Rattle.domain.specs.Meaning.{Added}
 use Rattle.domain.proofs.Copies.{grown}

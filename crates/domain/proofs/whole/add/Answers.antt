@@ -1,4 +1,4 @@
-use Rattle.std.proofs.Common.{arith, w64, SFits, rules}
+use Rattle.std.proofs.Common.{w64, SFits, rules}
 use Rattle.domain.specs.Wholes.{added}
 use Rattle.domain.proofs.whole.add.Goals as goal
 

@@ -16,7 +16,7 @@ here c =
       count = c.from.ensures;
       count_fits = record { sfits = c.from.type_inv };
       weight = weight;
-      weight-fits = record { sfits = c.from-in-loop-i.type_inv };
+      weight_fits = record { sfits = c.from-in-loop-i.type_inv };
     }
 
 pub overflow_mul-row : goal.overflow_mul-row

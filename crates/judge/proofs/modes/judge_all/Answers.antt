@@ -1,22 +1,16 @@
-use Rattle.std.proofs.Common.{ℕ, sym, subst, arith}
-use Rattle.judge.specs.Judged.{First, KeptAll, modes_of}
-use Rattle.judge.proofs.Turns.{firing-few, number-few, over-more}
-use Rattle.net.proofs.Facts as facts
-use Rattle.net.specs.Of.{net_of}
+use Rattle.std.proofs.Common.{◌≡◌, ℕ, vec_len, sym, subst, arith, below_none}
+use Rattle.judge.specs.Judged.{First, KeptAll}
+use Rattle.judge.proofs.Turns.{Over, number_none, over_more}
 use Rattle.judge.proofs.modes.judge_all.Goals as goal
 
-pub overflow_add-total : goal.overflow_add-total
-overflow_add-total g c =
-    let n = net_of c.args.net.now in
-    let t = c.loop-t.t in
-    let few = facts.modes c.args.net.now in
-    omega (arith, c.loop-t.invariant.0, number-few n 65536 few t, c.in-Accepted.ensures.0, firing-few n t (modes_of n t), few t, c.transitions-t-end.ensures, facts.transitions c.args.net.now)
+pub loop-t-init : goal.loop-t-init
+loop-t-init g c = (number_none c.args.net.now, below_none _)
 
 pub returns-in-Broken : goal.returns-in-Broken
 returns-in-Broken g c =
     let d = g.D.WeightDomain.meaning c.args.d.now in
     let codes = c.args.codes.now in
-    let n = net_of c.args.net.now in
+    let n = c.args.net.now in
     let told = c.in-Broken.ensures in
     let e = told.0 in (
       omega (arith, e, c.transitions-t-end.ensures),
@@ -25,4 +19,11 @@ returns-in-Broken g c =
     )
 
 pub loop-t-preserved : goal.loop-t-preserved
-loop-t-preserved g c = over-more (g.D.WeightDomain.meaning c.args.d.now) c.args.codes.now (net_of c.args.net.now) c.loop-t.t c.loop-t.total c.in-Accepted.modes c.loop-t.invariant c.in-Accepted.ensures
+loop-t-preserved g c = over_more (g.D.WeightDomain.meaning c.args.d.now) c.args.codes.now c.args.net.now c.loop-t.t c.loop-t.seen c.in-Accepted.modes _ c.saturating_add-seen.ensures c.loop-t.invariant c.in-Accepted.ensures
+
+pub returns : goal.returns
+returns g c =
+    let d = g.D.WeightDomain.meaning c.args.d.now in
+    let n = c.args.net.now in
+    let all : c.loop-t.t ≡ vec_len n.transitions = omega (arith, c.transitions-t-end.ensures) in
+    subst (λ (k : ℕ). Over d c.args.codes.now n k c.loop-t.seen) all c.loop-t.invariant

@@ -1,4 +1,4 @@
-use Rattle.std.proofs.Common.{arith, rules}
+use Rattle.std.proofs.Common.{rules}
 use Rattle.domain.specs.Residues.{added}
 use Rattle.domain.proofs.modulo.ModuloWeightDomain.add_copies.Goals as goal
 

@@ -2,7 +2,7 @@ use Rattle.std.proofs.Common.{◌≡◌, ◌+◌, ◌*◌, ◌%◌, ◌≤◌, g
 use Rattle.std.proofs.lemmas.Int.{to_z-of_z}
 use Rattle.domain.specs.Domains.{residue_weight}
 use Rattle.domain.specs.Residues.{weight_holds}
-use Rattle.domain.proofs.Rows.{residue-all, residue-next}
+use Rattle.domain.proofs.Rows.{residue_all, residue_next}
 use Rattle.domain.proofs.modulo.ModuloWeightDomain.add_row.Goals as goal
 
 pub loop-i-preserved : goal.loop-i-preserved
@@ -20,11 +20,11 @@ loop-i-preserved c =
     let few = (c.type_inv.counts i).fits in
     let light : w ≤ 65535 = omega (arith, is, below, ok.1) in
     let load : n * w ≤ n * 65535 = mul-le-mul_left n light in
-    (residue-next k ok.0 c.args.counts.now c.args.codes.now i n w c.loop-i.row c.from.ensures is c.loop-i.invariant.0, omega (arith, c.from.ensures, c.loop-i.invariant.1))
+    (residue_next k ok.0 c.args.counts.now c.args.codes.now i n w c.loop-i.row c.from.ensures is c.loop-i.invariant.0, omega (arith, c.from.ensures, c.loop-i.invariant.1))
 
 pub returns : goal.returns
 returns c =
     let k = c.args.self.now.k in
     let end : c.loop-i.i ≡ c.places-i-end.result = omega arith in
-    residue-all k c.args.self.now.ok.0 c.args.counts.now c.args.codes.now c.loop-i.i c.args.v.now c.loop-i.row c.reduce.result
+    residue_all k c.args.self.now.ok.0 c.args.counts.now c.args.codes.now c.loop-i.i c.args.v.now c.loop-i.row c.reduce.result
     (end ∙ c.places-i-end.ensures) c.loop-i.invariant.0 (c.reduce.ensures ∙ ap (λ v. (v + c.loop-i.row) % k) c.from-2.ensures)

@@ -1,7 +1,6 @@
-use Rattle.std.proofs.Common.{◌≡◌, ◌-◌, Bool, true, false, cond, ◌&&◌, leb, List, [], length, take, drop, sym, refl, ap, ◌∙◌, arith}
+use Rattle.std.proofs.Common.{◌≡◌, ◌-◌, Bool, true, false, cond, ◌&&◌, leb, List, [], length, take, drop, vec_items, sym, refl, ap, ◌∙◌, arith}
 use Rattle.net.specs.declared.parts.Arc.{Arc}
 use Rattle.net.proofs.Absent.{absent}
-use Rattle.net.specs.Of.{net_of}
 use Rattle.net.proofs.net.Net.arcs_of.Goals as goal
 
 none : (b : Bool) (xs : List Arc) → cond b (take 0 xs) [] ≡ []
@@ -10,6 +9,6 @@ none false xs = refl
 
 pub returns-then-t-len : goal.returns-then-t-len
 returns-then-t-len c =
-    let n = net_of c.args.self.now in
-    let arcs = n.arcs in
+    let n = c.args.self.now in
+    let arcs = vec_items n.arcs in
     sym (ap (λ how. cond (leb how.from how.to && leb how.to (length arcs)) (take (how.to - how.from) (drop how.from arcs)) []) (absent n c.args.t (omega (arith, c.len.ensures))) ∙ none (leb 0 (length arcs)) arcs)

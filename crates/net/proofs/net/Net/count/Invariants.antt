@@ -1,8 +1,7 @@
 use Rattle.std.proofs.Common.{take}
 use Rattle.net.specs.Nets.{Tallied, side}
-use Rattle.net.specs.Of.{net_of}
 use Rattle.net.proofs.net.Net.count.Given as goal
 
 -- the arcs so far are counted
 abbrev pub invariant-loop-arc : goal.invariant-loop-arc
-invariant-loop-arc l = Tallied l.initial.counts l.counts (side (net_of l.self) l.mode l.direction (take l.arc-index l.arc-items))
+invariant-loop-arc l = Tallied l.initial.counts l.counts (side l.self l.mode l.direction (take l.arc-index l.arc-items))

@@ -1,5 +1,0 @@
-pub mod Cells
-pub mod Walks
-pub mod Fired
-pub mod Standing
-pub mod Values

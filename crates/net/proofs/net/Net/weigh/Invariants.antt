@@ -1,0 +1,10 @@
+use Rattle.std.proofs.Common.{take}
+use Rattle.term.specs.Worth.{Weighs}
+use Rattle.net.specs.Nets.{load, side}
+use Rattle.net.proofs.net.Net.weigh.Given as goal
+
+-- the arcs so far are weighed
+abbrev pub invariant-loop-arc : goal.invariant-loop-arc
+invariant-loop-arc g l =
+    let d = g.D.WeightDomain.meaning l.d in
+    Weighs d l.codes d.nil (side l.self l.mode l.direction (take l.arc-index l.arc-items)) (load l.self l.direction (take l.arc-index l.arc-items)) l.sum

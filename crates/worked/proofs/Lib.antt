@@ -1,8 +1,0 @@
-pub mod First
-pub mod Values
-pub mod Decided
-pub mod Judging
-pub mod Verdicts
-pub mod Firings
-pub mod Caps
-pub mod Computed

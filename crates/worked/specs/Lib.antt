@@ -1,3 +1,0 @@
-pub mod Small
-pub mod Rows
-pub mod Table
