@@ -1,30 +1,21 @@
 -- The largest number of copies, in whole numbers and in truth values. Assumes nothing.
-use Rattle.std.proofs.Common.{◌≡◌, ℕ, zero, suc, ◌-◌, ◌*◌, ◌/◌, ◌<◌, ◌≤◌, Bool, true, false, eqb, ℤ, pos, negsuc, ◌+ℤ◌, ◌≤ℤ◌, refl, ap, ◌∙◌, subst, div-lt_iff_lt-mul, div-mul-le_self, arith, w64, SFits, to_z, of_z}
-use Rattle.std.proofs.lemmas.Int.{ints, to_z-of_z}
+use Rattle.std.proofs.Common.{◌≡◌, ℕ, zero, suc, ◌-◌, ◌*◌, ◌/◌, ◌<◌, ◌≤◌, Bool, true, false, eqb, ℤ, pos, negsuc, ◌+ℤ◌, ◌≤ℤ◌, refl, ap, subst, div-lt_iff_lt-mul, div-mul-le_self, arith}
+use Rattle.std.proofs.lemmas.Int.{ints}
 use Rattle.domain.specs.Meaning.{copies}
 use Rattle.domain.specs.Domains.{siphon, whole}
 use Rattle.domain.specs.Measure.{Largest, Reaches, whole_largest, truth_largest}
-use Rattle.domain.specs.declared.measuring.Most.{Most}
-use Rattle.domain.specs.declared.measuring.Most.TheVariants.{At}
 use Rattle.domain.specs.Truths.{copies_false, copies_truth}
-use Rattle.domain.specs.Wholes.{copies_whole}
+use Rattle.domain.specs.Wholes.{WholeOrder, copies_whole}
 
--- the answer of the program, which passes both numbers as bits
-abbrev pub Read : ℤ → ℤ → Most → Type 0
-Read v w r = r ≡ whole_largest (to_z w64 (of_z w64 v)) (to_z w64 (of_z w64 w))
-
-read : (v w : ℤ) (r : Most) → SFits w64 v → SFits w64 w → Read v w r → r ≡ whole_largest v w
-read v w r fv fw e = simp to_z-of_z at e
-
--- a relation of whole numbers that lies between "equal" and "at least"
-module _ {rel : ℤ → ℤ → Type 0} (same : (v x : ℤ) → v ≡ x → rel v x) (down : (v x : ℤ) → rel v x → x ≤ℤ v) where
+module _ {rel : ℤ → ℤ → Type 0} (o : WholeOrder rel) where
   reaches : (a b n : ℕ) → n * b ≤ a → Reaches (whole rel) (λ v. pos 0 ≤ℤ v) (pos a) (pos b) n
   reaches a b n h =
-      (pos (a - n * b), omega (arith, ints), same (pos a) (copies (whole rel) n (pos b) +ℤ pos (a - n * b)) (rw (copies_whole n (pos b)) (ap pos (omega arith))))
+      let e : pos a ≡ copies (whole rel) n (pos b) +ℤ pos (a - n * b) = rw (copies_whole n (pos b)) (ap pos (omega arith)) in
+      (pos (a - n * b), omega (arith, ints), subst (rel (pos a)) e (o.same (pos a)))
 
   not_past : (a b n : ℕ) → Reaches (whole rel) (λ v. pos 0 ≤ℤ v) (pos a) (pos b) n → n * b ≤ a
   not_past a b n (p, plain, r) =
-      let d : (pos (n * b) +ℤ p) ≤ℤ pos a = subst (λ (x : ℤ). (x +ℤ p) ≤ℤ pos a) (copies_whole n (pos b)) (down (pos a) (copies (whole rel) n (pos b) +ℤ p) r) in
+      let d : (pos (n * b) +ℤ p) ≤ℤ pos a = subst (λ (x : ℤ). (x +ℤ p) ≤ℤ pos a) (copies_whole n (pos b)) (o.down (pos a) (copies (whole rel) n (pos b) +ℤ p) r) in
       omega (arith, ints)
 
   pub largest_whole : (v w : ℤ) → pos 0 ≤ℤ v → pos 0 ≤ℤ w → Largest (whole rel) (λ v. pos 0 ≤ℤ v) v w (whole_largest v w)
@@ -35,18 +26,6 @@ module _ {rel : ℤ → ℤ → Type 0} (same : (v x : ℤ) → v ≡ x → rel 
   largest_whole (pos a) (negsuc b) h k = let z : ⊥ = omega (arith, ints) in elim z [ ]
   largest_whole (negsuc a) (pos b) h k = let z : ⊥ = omega (arith, ints) in elim z [ ]
   largest_whole (negsuc a) (negsuc b) h k = let z : ⊥ = omega (arith, ints) in elim z [ ]
-
-  pub plains_whole : {v w : ℤ} {r : Most} → SFits w64 v → SFits w64 w → Read v w r → pos 0 ≤ℤ v → pos 0 ≤ℤ w → Largest (whole rel) (λ v. pos 0 ≤ℤ v) v w r
-  plains_whole {v} {w} {r} fv fw e h k = rw (read v w r fv fw e) (largest_whole v w h k)
-
-others_whole : (v w : ℤ) → ((pos 0 ≤ℤ v) × (pos 0 ≤ℤ w) → ⊥) → whole_largest v w ≡ At 0
-others_whole (pos a) (pos b) h = elim (h (omega (arith, ints), omega (arith, ints))) [ ]
-others_whole (pos a) (negsuc b) h = refl
-others_whole (negsuc a) (pos b) h = refl
-others_whole (negsuc a) (negsuc b) h = refl
-
-pub others_zero : {v w : ℤ} {r : Most} → SFits w64 v → SFits w64 w → Read v w r → ((pos 0 ≤ℤ v) × (pos 0 ≤ℤ w) → ⊥) → r ≡ At 0
-others_zero {v} {w} {r} fv fw e h = read v w r fv fw e ∙ others_whole v w h
 
 pub largest_truth : (v w : Bool) → Largest siphon (λ _. Unit {0}) v w (truth_largest v w)
 largest_truth true w = λ n. (false, tt, λ _. refl)

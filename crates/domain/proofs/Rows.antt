@@ -5,7 +5,7 @@ use Rattle.domain.specs.Domains.{equal, modulo, residue_weight, siphon, truth_we
 use Rattle.domain.specs.Meaning.{Added, Laws, Meaning, copies, largest_sum, largest_weight, places, row_of, row_to}
 use Rattle.domain.proofs.Copies.{copies_holds, copies_size}
 use Rattle.domain.specs.Residues.{added}
-use Rattle.domain.specs.Truths.{assoc}
+use Rattle.domain.specs.Truths.{assoc, copies_truth}
 use Rattle.domain.specs.Wholes.{equal_laws, product_fits, size_weight, sum_fits, sum_is}
 
 -- one place more
@@ -97,3 +97,10 @@ truth_next counts codes k n v m w c en ew ec em =
     ap (λ (z : Bool). z || c) em ∙ assoc v (row_to siphon counts codes k) c
     ∙ ap (λ (z : Bool). v || (row_to siphon counts codes k || z)) (ec ∙ ap (λ (z : ℕ). copies siphon z w) en ∙ ap (copies siphon (get_or counts k 0)) ew)
     ∙ ap (λ (z : Bool). v || z) (sym (row_next siphon counts codes k))
+
+-- all of them
+pub truth_all : (counts : List ℕ) (codes : List ℤ) (k : ℕ) (v m : Bool) → k ≡ places counts codes → m ≡ (v || row_to siphon counts codes k) → Added siphon v 1 (row_of siphon counts codes) m
+truth_all counts codes k v m ek em = record {
+  exact = λ h. em ∙ ap (λ (z : ℕ). v || row_to siphon counts codes z) ek ∙ ap (λ (z : Bool). v || z) (sym (copies_truth 1 (row_of siphon counts codes) (omega arith)));
+  beyond = λ h. let z : ⊥ = omega arith in absurd z;
+}

@@ -20,18 +20,24 @@ size_weight c = grind (arith, ints)
 no_weight : (c : ℤ) → whole_code c ≡ false → whole_weight c ≡ pos 0
 no_weight c h = rw h
 
-pub whole_laws : (rel : ℤ → ℤ → Type 0) → ((v : ℤ) → rel v v) → ((u v w : ℤ) → rel u v → rel v w → rel u w)
-    → ((u v w : ℤ) → rel v w → rel (u +ℤ v) (u +ℤ w)) → Laws (whole rel)
-whole_laws rel r t m = record {
+-- a relation of whole numbers in a domain of theirs: an order that sums keep, within "at least"
+pub record WholeOrder (rel : ℤ → ℤ → Type 0) : Type 0 where
+  pub same : (v : ℤ) → rel v v
+  pub trans : (u v w : ℤ) → rel u v → rel v w → rel u w
+  pub plus : (u v w : ℤ) → rel v w → rel (u +ℤ v) (u +ℤ w)
+  pub down : (v w : ℤ) → rel v w → w ≤ℤ v
+
+pub whole_laws : {rel : ℤ → ℤ → Type 0} → WholeOrder rel → Laws (whole rel)
+whole_laws o = record {
   nil_holds = tt;
   plus_holds = λ u v _ _. tt;
   weight_holds = λ c. tt;
   assoc = λ u v w _ _ _. +ℤ_assoc u v w;
   comm = λ u v _ _. +ℤ_comm u v;
   neutral = λ v _. +ℤ_idl v;
-  rel_refl = λ v _. r v;
-  rel_trans = λ u v w _ _ _. t u v w;
-  rel_plus = λ u v w _ _ _. m u v w;
+  rel_refl = λ v _. o.same v;
+  rel_trans = λ u v w _ _ _. o.trans u v w;
+  rel_plus = λ u v w _ _ _. o.plus u v w;
   code_zero = refl;
   weight_zero = refl;
   no_weight = no_weight;
@@ -52,11 +58,17 @@ small : (z : ℤ) → unsigned_abs z ≤ largest_sum → FitsSigned w64 z
 small (pos n) h = record { sfits = omega arith }
 small (negsuc n) h = record { sfits = omega arith }
 
+pub equal_relates : WholeOrder (λ v w. v ≡ w)
+equal_relates = record { same = λ v. refl; trans = λ u v w p q. p ∙ q; plus = λ u v w p. ap (λ x. u +ℤ x) p; down = λ v w p. omega (arith, ints, p) }
+
+pub never_rises_relates : WholeOrder (λ v w. w ≤ℤ v)
+never_rises_relates = record { same = λ v. omega (arith, ints); trans = λ u v w p q. omega (arith, ints); plus = λ u v w p. omega (arith, ints); down = λ v w p. p }
+
 pub equal_laws : Laws equal
-equal_laws = whole_laws (λ v w. v ≡ w) (λ v. refl) (λ u v w p q. p ∙ q) (λ u v w p. ap (λ x. u +ℤ x) p)
+equal_laws = whole_laws equal_relates
 
 pub never_rises_laws : Laws never_rises
-never_rises_laws = whole_laws (λ v w. w ≤ℤ v) (λ v. omega (arith, ints)) (λ u v w p q. omega (arith, ints)) (λ u v w p. omega (arith, ints))
+never_rises_laws = whole_laws never_rises_relates
 
 -- the program's product and sum are the exact ones where they are small
 module _ (v : ℤ) {w m : ℤ} {n : ℕ} (fw : FitsSigned w64 w) (fm : FitsSigned w64 m) (e : m ≡ pos n) (h : unsigned_abs v + n * unsigned_abs w ≤ largest_sum) where

@@ -1,40 +1,18 @@
-ghost use Rattle.domain.specs.Domains.{equal};
-ghost use Rattle.domain.specs.Wholes.{equal_laws};
+ghost use Rattle.std.specs.Prelude.{◌≡◌};
+ghost use Rattle.domain.specs.Wholes.{equal_relates};
 
-use crate::{WeightDomain, whole};
+use crate::WholeRelation;
 
 // Whole numbers; the value stays the same.
-#[derive(Clone, Copy)]
+#[derive(Clone, Copy, PartialEq, Eq, Debug)]
 pub struct Equal;
 
-impl WeightDomain for Equal {
-    type Value = i64;
+impl WholeRelation for Equal {
+    ghost related = { λ _ v w. v ≡ w };
 
-    ghost meaning = { λ _. equal };
+    ghost orders = { λ _. equal_relates };
 
-    ghost lawful = { λ d. equal_laws };
-
-    fn is_weight(&self, code: i32) -> bool {
-        whole::is_code(code)
-    }
-
-    fn weight(&self, code: i32) -> i64 {
-        whole::weight(code)
-    }
-
-    fn zero(&self) -> i64 {
-        0
-    }
-
-    fn add_copies(&self, v: &i64, n: u32, w: &i64) -> i64 {
-        whole::add(*v, n, *w)
-    }
-
-    fn add_row(&self, v: &i64, counts: &[u8], codes: &[i32]) -> i64 {
-        whole::add_row(*v, counts, codes)
-    }
-
-    fn relates(&self, v: &i64, w: &i64) -> bool {
-        *v == *w
+    fn holds(&self, v: i64, w: i64) -> bool {
+        v == w
     }
 }

@@ -3,7 +3,7 @@ use crate::Modulo;
 
 mod methods;
 
-#[derive(Clone, Copy)]
+#[derive(Clone, Copy, PartialEq, Eq, Debug)]
 pub enum Kind {
     Equal,
     NeverRises,

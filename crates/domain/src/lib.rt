@@ -17,13 +17,14 @@ mod whole;
 
 pub use equal::Equal;
 pub use kind::Kind;
-pub use measuring::{Measuring, Most};
+pub use measuring::Measuring;
 pub use modulo::Modulo;
 pub use never_rises::NeverRises;
-use row::places;
+use row::counted;
 pub use siphon::Siphon;
 pub use sums::{add_weight, laws_give};
 pub use turned::Turned;
+pub use whole::WholeRelation;
 
 // The laws are what a judge rests on: it knows of no domain in particular.
 pub trait WeightDomain {
@@ -52,9 +53,9 @@ pub trait WeightDomain {
         ensures { Added (meaning self.now) v.now 1 (row_of (meaning self.now) counts.now codes.now) result }
     {
         let mut row = self.zero();
-        for i in 0..places(counts, codes) {
-            let weight = self.weight(codes[i]);
-            row = self.add_copies(&row, u32::from(counts[i]), &weight);
+        for (count, code) in counted(counts).iter().zip(codes) {
+            let weight = self.weight(*code);
+            row = self.add_copies(&row, u32::from(*count), &weight);
         }
         self.add_copies(v, 1, &row)
     }

@@ -3,10 +3,10 @@ ghost use Rattle.domain.specs.Domains.{modulo};
 ghost use Rattle.domain.specs.Residues.{residue_laws};
 
 use crate::WeightDomain;
-use crate::row::places;
+use crate::row::counted;
 
 // Residues modulo k, which is known when the program runs; the value stays the same.
-#[derive(Clone, Copy)]
+#[derive(Clone, Copy, PartialEq, Eq, Debug)]
 pub struct Modulo {
     pub(crate) k: u32,
     ghost ok: { (2 ≤ k) × (k ≤ 65535) },
@@ -16,7 +16,7 @@ impl Modulo {
     pub fn new(k: u32) -> Option<Modulo>
         ensures { MatchOption result ((2 ≤ k) × (k ≤ 65535) → ⊥) (λ m. m.k ≡ k) }
     {
-        if 2 <= k && k <= 65535 {
+        if (2..=65535).contains(&k) {
             Some(Modulo { k })
         } else {
             None
@@ -39,17 +39,14 @@ impl WeightDomain for Modulo {
     ghost lawful = { λ d. residue_laws d.k d.ok.0 };
 
     fn is_weight(&self, code: i32) -> bool {
-        match u32::try_from(code) {
-            Ok(n) => n < self.k,
-            Err(_) => false,
-        }
+        u32::try_from(code).is_ok_and(|n| n < self.k)
     }
 
     fn weight(&self, code: i32) -> u32 {
-        match u32::try_from(code) {
-            Ok(n) if n < self.k => n,
-            _ => 0,
-        }
+        u32::try_from(code)
+            .ok()
+            .filter(|n| *n < self.k)
+            .unwrap_or(0)
     }
 
     fn zero(&self) -> u32 {
@@ -64,8 +61,8 @@ impl WeightDomain for Modulo {
     // The row is reduced once, since it fits 64 bits too.
     fn add_row(&self, v: &u32, counts: &[u8], codes: &[i32]) -> u32 {
         let mut row: u64 = 0;
-        for i in 0..places(counts, codes) {
-            row += u64::from(counts[i]) * u64::from(self.weight(codes[i]));
+        for (count, code) in counted(counts).iter().zip(codes) {
+            row += u64::from(*count) * u64::from(self.weight(*code));
         }
         self.reduce(u64::from(*v) + row)
     }

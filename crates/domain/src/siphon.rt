@@ -4,13 +4,14 @@ ghost use Rattle.domain.specs.Meaning.{copies};
 ghost use Rattle.domain.specs.Truths.{truth_laws};
 
 use crate::WeightDomain;
-use crate::row::places;
+use crate::row::counted;
 
 // Whether a set of places is marked; once empty, a siphon stays empty.
-#[derive(Clone, Copy)]
+#[derive(Clone, Copy, PartialEq, Eq, Debug)]
 pub struct Siphon;
 
 // Under "or" one copy does what many do.
+#[tactic(auto, using(crate::specs::Truths::copies_truth))]
 fn copied(n: u32, w: bool) -> bool
     ensures { result ≡ copies siphon n w }
 {
@@ -25,7 +26,7 @@ impl WeightDomain for Siphon {
     ghost lawful = { λ d. truth_laws };
 
     fn is_weight(&self, code: i32) -> bool {
-        0 <= code && code <= 1
+        (0..=1).contains(&code)
     }
 
     fn weight(&self, code: i32) -> bool {
@@ -42,8 +43,8 @@ impl WeightDomain for Siphon {
 
     fn add_row(&self, v: &bool, counts: &[u8], codes: &[i32]) -> bool {
         let mut marked = *v;
-        for i in 0..places(counts, codes) {
-            marked = marked | copied(u32::from(counts[i]), self.weight(codes[i]));
+        for (count, code) in counted(counts).iter().zip(codes) {
+            marked = marked | copied(u32::from(*count), self.weight(*code));
         }
         marked
     }

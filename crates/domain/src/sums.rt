@@ -1,18 +1,11 @@
 // What the laws give to every domain: nothing here names one.
-ghost use Rattle.domain.specs.Meaning.{Added, CopiesCommute, CopiesSplit, Grown, SumsRelate};
+ghost use Rattle.domain.specs.Meaning.{CopiesCommute, CopiesSplit, Grown, SumsRelate};
 
 use crate::WeightDomain;
 
 // v with n copies of the weight of a code: the step of every sum over a marking.
 pub fn add_weight<D: WeightDomain>(d: &D, v: &D::Value, n: u32, code: i32) -> D::Value
     ensures { Grown (D.meaning d.now) v.now n code result }
-{
-    add_code(d, v, n, code)
-}
-
-// What the sum is; that it stays small is left to the laws.
-fn add_code<D: WeightDomain>(d: &D, v: &D::Value, n: u32, code: i32) -> D::Value
-    ensures { Added (D.meaning d.now) v.now n ((D.meaning d.now).weight code) result }
 {
     let w = d.weight(code);
     d.add_copies(v, n, &w)

@@ -4,7 +4,7 @@ ghost use Rattle.domain.specs.Turning.{turned_laws};
 use crate::WeightDomain;
 
 // A domain with its relation read backwards: never falls is Turned<NeverRises>, a trap is Turned<Siphon>.
-#[derive(Clone, Copy)]
+#[derive(Clone, Copy, PartialEq, Eq, Debug)]
 pub struct Turned<D>(pub D);
 
 impl<D: WeightDomain> WeightDomain for Turned<D> {

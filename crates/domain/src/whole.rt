@@ -1,36 +1,77 @@
-// The arithmetic that the domains of whole numbers share.
-ghost use Rattle.std.specs.Prelude.{◌≡◌};
-ghost use Rattle.domain.specs.Domains.{Codes, equal, whole_code, whole_weight};
+// The domains of whole numbers: they differ in their relation alone.
+ghost use Rattle.std.specs.Prelude.{◌≡◌, ℕ, ◌<◌, ℤ, pos, length, slice_index_or};
+ghost use Rattle.domain.specs.Domains.{Codes, equal, whole, whole_code, whole_weight};
 ghost use Rattle.domain.specs.Meaning.{Added, Tells, row_of};
+ghost use Rattle.domain.specs.Wholes.{WholeOrder, whole_laws};
 
-use crate::row::places;
+use crate::WeightDomain;
+use crate::row::counted;
 
 const LARGEST_WEIGHT: i32 = 1_000_000;
 
 const LARGEST_SUM: u64 = 10_000_000_000_000_000;
 
-pub fn is_code(code: i32) -> bool
-    ensures { result ≡ whole_code code }
-{
-    -LARGEST_WEIGHT <= code && code <= LARGEST_WEIGHT
+// What relates whole numbers in a domain of theirs.
+pub trait WholeRelation {
+    ghost related: { Self → ℤ → ℤ → Type 0 };
+
+    // Whether v relates to w.
+    fn holds(&self, v: i64, w: i64) -> bool
+        ensures { Tells result (related self.now v w) };
+
+    ghost orders: { (r : Self) → WholeOrder (related r) };
 }
 
-pub fn weight(code: i32) -> i64
+impl<R: WholeRelation> WeightDomain for R {
+    type Value = i64;
+
+    ghost meaning = { λ r. whole (R.related r) };
+
+    ghost lawful = { λ r. whole_laws (R.orders r) };
+
+    fn is_weight(&self, code: i32) -> bool {
+        is_code(code)
+    }
+
+    fn weight(&self, code: i32) -> i64 {
+        weight(code)
+    }
+
+    fn zero(&self) -> i64 {
+        0
+    }
+
+    fn add_copies(&self, v: &i64, n: u32, w: &i64) -> i64 {
+        add(*v, n, *w)
+    }
+
+    fn add_row(&self, v: &i64, counts: &[u8], codes: &[i32]) -> i64 {
+        add(*v, 1, row(counts, codes))
+    }
+
+    fn relates(&self, v: &i64, w: &i64) -> bool {
+        self.holds(*v, *w)
+    }
+}
+
+fn is_code(code: i32) -> bool
+    ensures { result ≡ whole_code code }
+{
+    (-LARGEST_WEIGHT..=LARGEST_WEIGHT).contains(&code)
+}
+
+fn weight(code: i32) -> i64
     ensures { result ≡ whole_weight code }
 {
     if is_code(code) { i64::from(code) } else { 0 }
 }
 
-// A size that does not fit 64 bits is past the largest sum.
-pub fn add(v: i64, n: u32, w: i64) -> i64
+// A size that does not fit 64 bits counts as the largest that does, which is past the largest sum.
+fn add(v: i64, n: u32, w: i64) -> i64
     ensures { Added equal v n w result }
 {
-    let Some(load) = u64::from(n).checked_mul(w.unsigned_abs()) else {
-        return 0;
-    };
-    let Some(size) = load.checked_add(v.unsigned_abs()) else {
-        return 0;
-    };
+    let load = u64::from(n).saturating_mul(w.unsigned_abs());
+    let size = load.saturating_add(v.unsigned_abs());
     if size <= LARGEST_SUM {
         v + i64::from(n) * w
     } else {
@@ -38,24 +79,18 @@ pub fn add(v: i64, n: u32, w: i64) -> i64
     }
 }
 
-// v with a row of weights added.
-pub fn add_row(v: i64, counts: &[u8], codes: &[i32]) -> i64
-    ensures { Added equal v 1 (row_of equal counts.now codes.now) result }
-{
-    add(v, 1, row(counts, codes))
-}
-
-// Where all codes are weights, none has to be tested while the row is added up.
+// Where all codes are weights, none has to be tested while the row is added up, which is faster.
 fn row(counts: &[u8], codes: &[i32]) -> i64
     ensures { result ≡ row_of equal counts.now codes.now }
 {
     if are_codes(codes) {
-        row_of_codes(counts, codes)
+        row_by(counts, codes, |code| i64::from(code))
     } else {
-        row_of_weights(counts, codes)
+        row_by(counts, codes, |code| weight(code))
     }
 }
 
+// A loop, since `all` leaves at the first that is none, and that is slower.
 fn are_codes(codes: &[i32]) -> bool
     ensures { Tells result (Codes codes.now) }
 {
@@ -66,23 +101,15 @@ fn are_codes(codes: &[i32]) -> bool
     all
 }
 
-fn row_of_codes(counts: &[u8], codes: &[i32]) -> i64
-    requires { Codes codes.now }
+// A row, by what gives the weight of each of its codes.
+fn row_by<F: Fn(i32) -> i64>(counts: &[u8], codes: &[i32], weight: F) -> i64
+    requires callable { F.IsAlwaysCallable weight }
+    requires weighs { (i : ℕ) (w : ℤ) → i < length codes.now → F.post weight (slice_index_or codes.now i (pos 0)) w → w ≡ whole_weight (slice_index_or codes.now i (pos 0)) }
     ensures { result ≡ row_of equal counts.now codes.now }
 {
     let mut row: i64 = 0;
-    for i in 0..places(counts, codes) {
-        row += i64::from(counts[i]) * i64::from(codes[i]);
-    }
-    row
-}
-
-fn row_of_weights(counts: &[u8], codes: &[i32]) -> i64
-    ensures { result ≡ row_of equal counts.now codes.now }
-{
-    let mut row: i64 = 0;
-    for i in 0..places(counts, codes) {
-        row += i64::from(counts[i]) * weight(codes[i]);
+    for (count, code) in counted(counts).iter().zip(codes) {
+        row += i64::from(*count) * weight(*code);
     }
     row
 }

@@ -9,13 +9,13 @@ ghost use Rattle.domain_tests.specs.Heights.{greatest_laws};
 use domain::{WeightDomain, add_weight};
 
 // How high a token stands. It is moved, never copied, as values that own memory would be.
-#[derive(Drop)]
+#[derive(PartialEq, Eq, Debug, Drop)]
 pub struct Height {
     pub metres: u32,
 }
 
 // The value of a marking is the height of its highest token, which never rises.
-#[derive(Clone, Copy)]
+#[derive(Clone, Copy, PartialEq, Eq, Debug)]
 pub struct Greatest;
 
 impl WeightDomain for Greatest {
@@ -30,9 +30,8 @@ impl WeightDomain for Greatest {
     }
 
     fn weight(&self, code: i32) -> Height {
-        match u32::try_from(code) {
-            Ok(metres) => Height { metres },
-            Err(_) => Height { metres: 0 },
+        Height {
+            metres: u32::try_from(code).unwrap_or(0),
         }
     }
 
@@ -68,16 +67,15 @@ pub fn total<D: WeightDomain>(d: &D, codes: &[i32]) -> D::Value
 #[cfg(test)]
 mod tests {
     use super::*;
-    use domain::{Equal, Kind, Measuring, Modulo, Most, NeverRises, Siphon, Turned};
-    use std::test::Fail;
+    use domain::{Equal, Kind, Measuring, Modulo, NeverRises, Siphon, Turned};
 
     #[test]
     fn greatest_never_rises(rt: HostRuntime) {
         let low = add_weight(&Greatest, &Greatest.zero(), 3, 5);
         let high = add_weight(&Greatest, &low, 1, 9);
-        assert!(rt; low.metres == 5);
-        assert!(rt; high.metres == 9);
-        assert!(rt; total(&Greatest, &[4, -8, 6]).metres == 6);
+        assert_eq!(rt; low.metres, 5);
+        assert_eq!(rt; high.metres, 9);
+        assert_eq!(rt; total(&Greatest, &[4, -8, 6]).metres, 6);
         assert!(rt; !Greatest.relates(&low, &high));
         assert!(rt; Turned(Greatest).relates(&low, &high));
     }
@@ -85,10 +83,10 @@ mod tests {
     #[test]
     fn sums_are_exact_up_to_the_bound(rt: HostRuntime) {
         let most = 10_000_000_000_000_000;
-        assert!(rt; Equal.add_copies(&0, 2, &(most / 2)) == most);
-        assert!(rt; Equal.add_copies(&1, 2, &(most / 2)) == 0);
-        assert!(rt; Equal.add_copies(&0, u32::MAX, &i64::MIN) == 0);
-        assert!(rt; Equal.add_copies(&-most, 0, &i64::MAX) == -most);
+        assert_eq!(rt; Equal.add_copies(&0, 2, &(most / 2)), most);
+        assert_eq!(rt; Equal.add_copies(&1, 2, &(most / 2)), 0);
+        assert_eq!(rt; Equal.add_copies(&0, u32::MAX, &i64::MIN), 0);
+        assert_eq!(rt; Equal.add_copies(&-most, 0, &i64::MAX), -most);
     }
 
     #[test]
@@ -101,55 +99,30 @@ mod tests {
     }
 
     #[test]
-    fn residues(rt: HostRuntime) -> Result<(), Fail> {
-        assert!(rt; Modulo::new(1).is_none());
-        assert!(rt; Modulo::new(65_536).is_none());
-        match Modulo::new(12) {
-            Some(hours) => {
-                assert!(rt; hours.is_weight(11) && !hours.is_weight(12));
-                assert!(rt; hours.add_copies(&10, 3, &7) == 7);
-                Ok(())
-            }
-            None => {
-                assert!(rt; false);
-                Ok(())
-            },
-        }
+    fn residues(rt: HostRuntime) {
+        assert_eq!(rt; Modulo::new(1), None);
+        assert_eq!(rt; Modulo::new(65_536), None);
+        let hours = Modulo::new(12).unwrap();
+        assert!(rt; hours.is_weight(11) && !hours.is_weight(12));
+        assert_eq!(rt; hours.add_copies(&10, 3, &7), 7);
     }
 
     #[test]
-    fn largest(rt: HostRuntime) -> Result<(), Fail> {
-        match Equal.largest(&7, &2) {
-            Most::At(n) => assert!(rt; n == 3),
-            Most::Unbounded => assert!(rt; false),
-        }
-        match Siphon.largest(&false, &false) {
-            Most::At(_) => {
-                assert!(rt; false);
-                Ok(())
-            },
-            Most::Unbounded => {
-                assert!(rt; Equal.is_plain(&0));
-                Ok(())
-            },
-        }
+    fn largest(rt: HostRuntime) {
+        assert_eq!(rt; Equal.largest(&7, &2), Some(3));
+        assert_eq!(rt; Siphon.largest(&false, &false), None);
+        assert!(rt; Equal.is_plain(&0));
     }
 
     #[test]
-    fn kinds(rt: HostRuntime) -> Result<(), Fail> {
-        assert!(rt; Kind::from_number(0, 0).is_none());
-        assert!(rt; Kind::from_number(1, 2).is_none());
-        assert!(rt; Kind::from_number(4, 1).is_none());
-        assert!(rt; Kind::from_number(7, 0).is_none());
-        match Kind::from_number(5, 0) {
-            Some(trap) => {
-                assert!(rt; !trap.is_measuring() && trap.is_weight(1) && !trap.is_weight(2));
-                Ok(())
-            },
-            None => {
-                assert!(rt; false);
-                Ok(())
-            },
-        }
+    fn kinds(rt: HostRuntime) {
+        assert_eq!(rt; Kind::from_number(0, 0), None);
+        assert_eq!(rt; Kind::from_number(1, 2), None);
+        assert_eq!(rt; Kind::from_number(4, 1), None);
+        assert_eq!(rt; Kind::from_number(7, 0), None);
+        assert_eq!(rt; Kind::from_number(5, 0), Some(Kind::Trap));
+        assert!(rt;
+            !Kind::Trap.is_measuring() && Kind::Trap.is_weight(1) && !Kind::Trap.is_weight(2)
+        );
     }
 }

@@ -19,6 +19,7 @@ mod tests {
         assert!(rt; list.push(8).is_ok());
         assert!(rt; list.push(9).is_err());
         assert!(rt; list.get(1) == Some(8));
+        assert_eq!(rt; list.as_slice(), [7, 8].as_slice());
         assert!(rt; list.get(2).is_none());
         assert!(rt; list.pop() == Some(8));
         assert!(rt; list.len() == 1);

@@ -5,7 +5,8 @@ use super::Kind;
 use crate::{Equal, Modulo, NeverRises, Siphon, Turned, WeightDomain};
 
 impl Kind {
-    // The kind that a file names by its number; only residues have a modulus.
+    // The kind that a file names by its number; only residues have a modulus. A method and no TryFrom: two numbers
+    // would have to be paired for it.
     pub fn from_number(kind: u8, modulus: u16) -> Option<Kind>
         ensures { KindAt kind modulus result }
     {
@@ -13,17 +14,15 @@ impl Kind {
             (1, 0) => Some(Kind::Equal),
             (2, 0) => Some(Kind::NeverRises),
             (3, 0) => Some(Kind::NeverFalls),
-            (4, k) => match Modulo::new(u32::from(k)) {
-                Some(m) => Some(Kind::Modulo(m)),
-                None => None,
-            },
+            (4, k) => Modulo::new(u32::from(k)).map(Kind::Modulo),
             (5, 0) => Some(Kind::Trap),
             (6, 0) => Some(Kind::Siphon),
             _ => None,
         }
     }
 
-    // Whether the code stands for a weight under this kind.
+    // Whether the code stands for a weight under this kind. A match, here and in the judge: each domain is a type of
+    // its own, so that no closure or dyn can stand for all of them.
     pub fn is_weight(&self, code: i32) -> bool
         ensures { result ≡ kind_weighs self.now code }
     {

@@ -1,30 +1,49 @@
-use Rattle.std.proofs.Common.{◌≡◌, ◌+◌, ◌*◌, ◌%◌, ◌≤◌, get_or, pos, ap, ◌∙◌, mul-le-mul_left, arith, w32, SFits, rules}
+use Rattle.std.proofs.Common.{◌≡◌, ◌+◌, ◌*◌, ◌%◌, ◌≤◌, length, get_or, pos, ap, ◌∙◌, mul-le-mul_left, arith, w32, SFits, rules}
 use Rattle.std.proofs.lemmas.Int.{to_z-of_z}
+use Rattle.std.proofs.lemmas.List.{length_push}
 use Rattle.domain.specs.Domains.{residue_weight}
 use Rattle.domain.specs.Residues.{weight_holds}
+use Rattle.domain.proofs.Pairs.{Turn, end, turn}
 use Rattle.domain.proofs.Rows.{residue_all, residue_next}
 use Rattle.domain.proofs.modulo.ModuloWeightDomain.add_row.Goals as goal
 
-pub loop-i-preserved : goal.loop-i-preserved
-loop-i-preserved c =
-    let k = c.args.self.now.k in
-    let ok = c.args.self.now.ok in
-    let i = c.loop-i.i in
-    let code = get_or c.args.codes.now i (pos 0) in
-    let n = c.from.result in
-    let w = c.from-in-loop-i.result in
+here : (c : goal.After-from-in-loop-count) → Turn c.args.counts.now c.args.codes.now (length c.loop-count.yielded) c.in-Some.count.now c.in-Some.code.now
+here c = turn c.args.counts.now c.args.codes.now c.loop-count.yielded _ _ c.next.new.self _ (cc) (cc) c.loop-count.yielded_by _ c.in-Some.is c.next.ensures.steps
+
+weight : (c : goal.After-from-in-loop-count) → c.from-in-loop-count.result ≡ residue_weight c.args.self.now.k (get_or c.args.codes.now (length c.loop-count.yielded) (pos 0))
+weight c =
+    let t = here c in
+    let code = get_or c.args.codes.now (length c.loop-count.yielded) (pos 0) in
     let fits : SFits w32 code = search rules in
-    let weight : c.weight.result ≡ residue_weight k code = simp to_z-of_z at c.weight.ensures in
-    let is : w ≡ residue_weight k code = c.from-in-loop-i.ensures ∙ weight in
-    let below = weight_holds k code ok.0 in
-    let few = (c.type_inv.counts i).fits in
-    let light : w ≤ 65535 = omega (arith, is, below, ok.1) in
-    let load : n * w ≤ n * 65535 = mul-le-mul_left n light in
-    (residue_next k ok.0 c.args.counts.now c.args.codes.now i n w c.loop-i.row c.from.ensures is c.loop-i.invariant.0, omega (arith, c.from.ensures, c.loop-i.invariant.1))
+    c.from-in-loop-count.ensures ∙ simp to_z-of_z at (rw t.code at c.weight.ensures)
+
+-- the row of one place more, not reduced, is small too
+grows : (c : goal.After-from-in-loop-count) → c.loop-count.row + c.from.result * c.from-in-loop-count.result ≤ 255 * 65535 * (length c.loop-count.yielded + 1)
+grows c =
+    let t = here c in
+    let k = length c.loop-count.yielded in
+    let w = c.from-in-loop-count.result in
+    let few = (c.type_inv.counts k).fits in
+    let light : w ≤ 65535 = omega (arith, weight c, weight_holds c.args.self.now.k (get_or c.args.codes.now k (pos 0)) c.args.self.now.ok.0, c.args.self.now.ok.1) in
+    let load : c.from.result * w ≤ c.from.result * 65535 = mul-le-mul_left c.from.result light in
+    omega (arith, t.count, c.from.ensures, c.loop-count.invariant.1)
+
+pub overflow_add-row : goal.overflow_add-row
+overflow_add-row c = let t = here c in record { fits = omega (arith, grows c, t.short) }
+
+pub loop-count-preserved : goal.loop-count-preserved
+loop-count-preserved c =
+    let t = here c in
+    rw length_push (residue_next c.args.self.now.k c.args.self.now.ok.0 c.args.counts.now c.args.codes.now _ _ _ c.loop-count.row (c.from.ensures ∙ t.count) (weight c) c.loop-count.invariant.0, grows c)
+
+pub overflow_add-from : goal.overflow_add-from
+overflow_add-from c =
+    let e = end c.args.counts.now c.args.codes.now c.loop-count.yielded _ _ c.next.new.self _ (cc) (cc) c.loop-count.yielded_by c.in-None.is c.next.ensures.steps in
+    record { fits = omega (arith, e, c.loop-count.invariant.1, c.from-2.type_inv) }
 
 pub returns : goal.returns
 returns c =
     let k = c.args.self.now.k in
-    let end : c.loop-i.i ≡ c.places-i-end.result = omega arith in
-    residue_all k c.args.self.now.ok.0 c.args.counts.now c.args.codes.now c.loop-i.i c.args.v.now c.loop-i.row c.reduce.result
-    (end ∙ c.places-i-end.ensures) c.loop-i.invariant.0 (c.reduce.ensures ∙ ap (λ v. (v + c.loop-i.row) % k) c.from-2.ensures)
+    let e = end c.args.counts.now c.args.codes.now c.loop-count.yielded _ _ c.next.new.self _ (cc) (cc) c.loop-count.yielded_by c.in-None.is c.next.ensures.steps in
+    residue_all k c.args.self.now.ok.0 c.args.counts.now c.args.codes.now _ c.args.v.now c.loop-count.row c.reduce.result
+    e c.loop-count.invariant.0 (c.reduce.ensures ∙ ap (λ v. (v + c.loop-count.row) % k) c.from-2.ensures)
