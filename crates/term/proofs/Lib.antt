@@ -1,6 +1,7 @@
 pub mod BagSteps
 pub mod Cuts
 pub mod Loads
+pub mod Lookups
 pub mod Shapes
 pub mod Steps
 pub mod Sums

@@ -1,8 +1,10 @@
 -- A bag has few tokens for its bytes, whatever the bytes are.
-use Rattle.std.proofs.Common.{◌≡◌, ℕ, zero, suc, ◌+◌, ◌*◌, ◌<◌, ◌≤◌, Bool, true, false, cond, eqb, List, length, get_or, drop, refl, arith, length-drop}
+use Rattle.std.proofs.Common.{◌≡◌, ℕ, zero, suc, ◌+◌, ◌*◌, ◌<◌, ◌≤◌, Bool, true, false, cond, List, length, get_or, drop, refl, arith, length-drop}
 use Rattle.std.proofs.lemmas.Bool.Decides.{nat_tests}
 use Rattle.term.specs.Meaning.{Sig, operation}
-use Rattle.term.specs.Prefix.{Read, ReadBag, bag_at, begins, term_at}
+use Rattle.term.specs.declared.signature.Arguments.{Arguments}
+use Rattle.term.specs.declared.signature.Arguments.TheVariants as arguments
+use Rattle.term.specs.Prefix.{Read, ReadBag, applied, bag_at, begins, term_at}
 use Rattle.term.specs.Worth.{most}
 
 -- whichever way a choice goes
@@ -12,6 +14,12 @@ choose P false x y p q = q refl
 
 some : (k n : ℕ) (bs : List ℕ) → begins k n bs ≡ true → 0 < length bs
 some k n bs e = grind (arith, nat_tests, e)
+
+-- what follows as many parts as there are arguments is no longer than n, if nothing that follows one is
+applied_short : (p : List ℕ → Read) (k : ℕ) (a : Arguments) (xs : List ℕ) (n : ℕ) → length xs ≤ n → ((ys : List ℕ) → length ys ≤ n → length (p ys).1 ≤ n) → length (applied p k a xs).1 ≤ n
+applied_short p k arguments.None xs n h f = h
+applied_short p k (arguments.One a) xs n h f = f xs h
+applied_short p k (arguments.Two a b) xs n h f = f (p xs).1 (f xs h)
 
 module _ (s : Sig) where
   -- what follows a term is no longer than the bytes
@@ -29,8 +37,7 @@ module _ (s : Sig) where
       choose P (begins 0x20 1 bs) _ _ (λ e. omega arith) (λ e1.
       choose P (begins 0x21 2 bs) _ _ (λ e. omega arith) (λ e2.
       choose P (begins 0x22 1 bs) _ _
-      (λ e. choose P (eqb (operation s (get_or bs 1 0)).arity 0) _ _ (λ f. omega arith) (λ f1.
-      choose P (eqb (operation s (get_or bs 1 0)).arity 1) _ _ (λ f. after (drop 2 bs) (omega arith)) (λ f2. twice (drop 2 bs) (omega arith)))) (λ e3.
+      (λ e. applied_short p (get_or bs 1 0) (operation s (get_or bs 1 0)).arguments (drop 2 bs) (length bs) (omega arith) after) (λ e3.
       choose P (begins 0x23 1 bs) _ _ (λ e. twice (drop 2 bs) (omega arith)) (λ e4.
       choose P (begins 0x24 0 bs) _ _ (λ e. after (drop 1 bs) (omega arith)) (λ e5.
       choose P (begins 0x25 0 bs) _ _ (λ e. twice (drop 1 bs) (omega arith)) (λ e6. omega arith))))))

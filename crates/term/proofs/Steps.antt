@@ -1,64 +1,71 @@
--- One turn of the check of a term. Assumes nothing.
-use Rattle.std.proofs.Common.{◌≡◌, ℕ, zero, suc, ◌-◌, ◌<◌, Bool, true, false, cond, ◌&&◌, eqb, ltb, leb, List, length, get_or, IfOk, Result, sym, ap, ◌∙◌, arith, Bor, lt-ltb, ne_eqb}
-use Rattle.std.proofs.lemmas.Result.{IfOk-weaker}
-use Rattle.term.specs.Meaning.{Sig}
-use Rattle.term.specs.Check.{Front, front, none, Checked, done, bad, head_at, check_term, parts, then, in_term, place}
+-- One turn of the check of a term.
+use Rattle.std.proofs.Common.{◌≡◌, ℕ, zero, suc, ◌-◌, ◌<◌, Bool, true, false, cond, ◌&&◌, eqb, ltb, leb, List, length, get_or, ap, sym, ◌∙◌, subst, arith, ne_eqb}
+use Rattle.term.specs.declared.check.Checker.{Checker}
+use Rattle.term.specs.declared.check.Head.{Head}
 use Rattle.term.specs.declared.fault.Fault.TheVariants as fault
 use Rattle.term.specs.declared.fault.FileFault.{FileFault}
+use Rattle.term.specs.declared.signature.Arguments.{Arguments}
+use Rattle.term.specs.declared.signature.Arguments.TheVariants as arguments
+use Rattle.term.specs.Meaning.{of}
+use Rattle.term.specs.Check.{Front, front, none, Checked, bad, head_at, check_term, parts, then, in_term, place}
+use Rattle.term.specs.Shape.{Passed, Shape}
+use Rattle.term.proofs.Shapes.{passed_leaf, passed_one, passed_two}
 
-apart : (n a b : ℕ) (r : List ℕ) (e : FileFault) → front n a b r ≡ none e → ⊥
-apart n a b r e h = let z : ◌≡◌ {A = ℕ} 0 1 = cc in omega arith
+never : (p q : Bool) (a : Arguments) (r : List ℕ) (x y z : FileFault) → front a r ≡ cond p (cond q (none x) (none y)) (none z) → ⊥
+never true true a r x y z h = cc
+never true false a r x y z h = cc
+never false q a r x y z h = cc
 
-never : (p q : Bool) (n a b : ℕ) (r : List ℕ) (x y z : FileFault) → front n a b r ≡ cond p (cond q (none x) (none y)) (none z) → ⊥
-never true true n a b r x y z h = apart n a b r x h
-never true false n a b r x y z h = apart n a b r y h
-never false q n a b r x y z h = apart n a b r z h
+module _ (k : Checker) where
+  -- the front of a term of at most the given depth
+  abbrev front_at : ℕ → ℕ → List ℕ → Front
+  front_at d want bs = head_at (of k.signature) k.variables.now (eqb d 0) want bs k.ends
 
--- what is shorter than q is shorter than a longer list
-pub still_shorter : (r : Result (Bor (List ℕ)) FileFault) (q bs : List ℕ) → length q < length bs → IfOk r (λ t. length t.now < length q) → IfOk r (λ t. length t.now < length bs)
-still_shorter r q bs h k = IfOk-weaker r (λ t. length t.now < length q) (λ t. length t.now < length bs) (λ t m. omega arith) k
+  abbrev check : ℕ → ℕ → List ℕ → Checked
+  check d want bs = check_term (of k.signature) k.variables.now k.ends d want bs
 
-positive : (d : ℕ) → eqb (suc d) 0 ≡ false
-positive d = ne_eqb (suc d) 0 (λ e. omega arith)
+  shallow : (d want : ℕ) (bs : List ℕ) (f : Front) → f ≡ front_at (suc d) want bs → parts (check d) f ≡ check (suc d) want bs
+  shallow d want bs f h = ap (parts (check d)) (h ∙ ap (λ z. head_at (of k.signature) k.variables.now z want bs k.ends) (ne_eqb (suc d) 0 (λ e. omega arith)))
 
-module _ (s : Sig) (vars : List ℕ) (ends : ℕ) where
   -- nothing is found past the depth
-  pub deeper : (d want n a b : ℕ) (bs r : List ℕ) → front n a b r ≡ head_at s vars (eqb d 0) want bs ends → 0 < d
-  deeper zero want n a b bs r h =
-      absurd (never (ltb 0 (length bs)) (leb 32 (get_or bs 0 0) && leb (get_or bs 0 0) 37) n a b r (in_term fault.Deep (place bs ends 0)) (in_term fault.NoCommand (place bs ends 0)) (in_term fault.Ends ends) h)
-  deeper (suc d) want n a b bs r h = omega arith
+  deeper : (d want : ℕ) (bs : List ℕ) (a : Arguments) (r : List ℕ) → front a r ≡ front_at d want bs → 0 < d
+  deeper zero want bs a r h =
+      absurd (never (ltb 0 (length bs)) (leb 32 (get_or bs 0 0) && leb (get_or bs 0 0) 37) a r (in_term fault.Deep (place bs k.ends 0)) (in_term fault.NoCommand (place bs k.ends 0)) (in_term fault.Ends k.ends) h)
+  deeper (suc d) want bs a r h = omega arith
 
-  shallow : (d want : ℕ) (bs : List ℕ) (f : Front) → f ≡ head_at s vars (eqb (suc d) 0) want bs ends → parts (check_term s vars ends d) f ≡ check_term s vars ends (suc d) want bs
-  shallow d want bs f h = ap (parts (check_term s vars ends d)) (h ∙ ap (λ z. head_at s vars z want bs ends) (positive d))
+  pub no_front : (d want : ℕ) (bs : List ℕ) (e : FileFault) → none e ≡ front_at d want bs → bad e ≡ check d want bs
+  no_front zero want bs e h = ap (parts (λ t r. bad (in_term fault.Deep 0))) h
+  no_front (suc d) want bs e h = shallow d want bs (none e) h
 
-  pub step_bad : (d want : ℕ) (bs : List ℕ) (e : FileFault) → none e ≡ head_at s vars (eqb d 0) want bs ends → bad e ≡ check_term s vars ends d want bs
-  step_bad zero want bs e h = ap (parts (λ t r. bad (in_term fault.Deep 0))) h
-  step_bad (suc d) want bs e h = shallow d want bs (none e) h
+  -- the parts that a front asks for
+  step : (d want : ℕ) (bs : List ℕ) (a : Arguments) (r : List ℕ) → front a r ≡ front_at d want bs → parts (check (d - 1)) (front a r) ≡ check d want bs
+  step zero want bs a r h = let z : ⊥ = omega (arith, deeper zero want bs a r h) in absurd z
+  step (suc d) want bs a r h = let e : suc d - 1 ≡ d = omega arith in ap (λ n. parts (check n) (front a r)) e ∙ shallow d want bs (front a r) h
 
-  pub step_leaf : (d want n a b : ℕ) (bs r : List ℕ) → n ≡ 0 → front n a b r ≡ head_at s vars (eqb d 0) want bs ends → done r ≡ check_term s vars ends d want bs
-  step_leaf zero want n a b bs r z h = ap (λ m. parts (λ t r. bad (in_term fault.Deep 0)) (front m a b r)) (sym z) ∙ ap (parts (λ t r. bad (in_term fault.Deep 0))) h
-  step_leaf (suc d) want n a b bs r z h = ap (λ m. parts (check_term s vars ends d) (front m a b r)) (sym z) ∙ shallow d want bs (front n a b r) h
+  -- a front was read, and its parts are of the sorts a
+  module _ (d want : ℕ) (bs : List ℕ) (h : Head) (value : front h.parts h.rest.now ≡ front_at d want bs) where
+    pub deep : 0 < d
+    deep = deeper d want bs h.parts h.rest.now value
 
-  -- what a front with parts asks for
-  abbrev pub rest_of : ℕ → ℕ → ℕ → ℕ → List ℕ → Checked
-  rest_of d n a b r = then (check_term s vars ends d a r) (λ q. cond (ltb 1 n) (check_term s vars ends d b q) (done q))
+    pub asks : (a : Arguments) → h.parts ≡ a → parts (check (d - 1)) (front a h.rest.now) ≡ check d want bs
+    asks a is = step d want bs a h.rest.now (ap (λ x. front x h.rest.now) (sym is) ∙ value)
 
-  pub step_parts : (d want n a b : ℕ) (bs r : List ℕ) → 0 < n → front n a b r ≡ head_at s vars (eqb d 0) want bs ends → rest_of (d - 1) n a b r ≡ check_term s vars ends d want bs
-  step_parts zero want n a b bs r m h = let z : ⊥ = omega (arith, deeper zero want n a b bs r h) in absurd z
-  step_parts (suc d) want n a b bs r m h =
-      ap (λ j. rest_of j n a b r) (omega arith) ∙ sym (ap (λ t. cond t (rest_of d n a b r) (done r)) (lt-ltb 0 n m)) ∙ shallow d want bs (front n a b r) h
+    -- the first of two parts was checked
+    pub then_second : (a b : ℕ) (x : Checked) → h.parts ≡ arguments.Two a b → x ≡ check (d - 1) a h.rest.now → then x (check (d - 1) b) ≡ check d want bs
+    then_second a b x is first = ap (λ t. then t (check (d - 1) b)) first ∙ asks (arguments.Two a b) is
 
-  -- the first part fails
-  pub first_bad : (d want n a b : ℕ) (bs r : List ℕ) (e : FileFault) → 0 < n → front n a b r ≡ head_at s vars (eqb d 0) want bs ends → bad e ≡ check_term s vars ends (d - 1) a r → bad e ≡ check_term s vars ends d want bs
-  first_bad d want n a b bs r e m h k =
-      ap (λ t. then t (λ q. cond (ltb 1 n) (check_term s vars ends (d - 1) b q) (done q))) k ∙ step_parts d want n a b bs r m h
+    module _ (shape : Shape (of k.signature) k.variables.now want bs h.parts h.rest.now) where
+      abbrev passed : ℕ → ℕ → List ℕ → List ℕ → Type 0
+      passed e w l r = Passed (of k.signature) k.variables.now e w l r
 
-  -- there is one part
-  pub one_part : (d want n a b : ℕ) (bs r q : List ℕ) → n ≡ 1 → front n a b r ≡ head_at s vars (eqb d 0) want bs ends → done q ≡ check_term s vars ends (d - 1) a r → done q ≡ check_term s vars ends d want bs
-  one_part d want n a b bs r q m h k =
-      ap (λ j. cond (ltb 1 j) (check_term s vars ends (d - 1) b q) (done q)) (sym m) ∙ ap (λ t. then t (λ q. cond (ltb 1 n) (check_term s vars ends (d - 1) b q) (done q))) k ∙ step_parts d want n a b bs r (omega arith) h
+      with_sorts : (a : Arguments) → h.parts ≡ a → Shape (of k.signature) k.variables.now want bs a h.rest.now
+      with_sorts a is = subst (λ (x : Arguments). Shape (of k.signature) k.variables.now want bs x h.rest.now) is shape
 
-  -- there are two
-  pub two_parts : (d want n a b : ℕ) (bs r q : List ℕ) → 1 < n → front n a b r ≡ head_at s vars (eqb d 0) want bs ends → done q ≡ check_term s vars ends (d - 1) a r → check_term s vars ends (d - 1) b q ≡ check_term s vars ends d want bs
-  two_parts d want n a b bs r q m h k =
-      sym (ap (λ j. cond j (check_term s vars ends (d - 1) b q) (done q)) (lt-ltb 1 n m)) ∙ ap (λ t. then t (λ q. cond (ltb 1 n) (check_term s vars ends (d - 1) b q) (done q))) k ∙ step_parts d want n a b bs r (omega arith) h
+      pub leaf : h.parts ≡ arguments.None → passed d want bs h.rest.now
+      leaf is = passed_leaf (of k.signature) k.variables.now d want bs h.rest.now deep (with_sorts _ is)
+
+      pub unary : (a : ℕ) → h.parts ≡ arguments.One a → (q : List ℕ) → passed (d - 1) a h.rest.now q → passed d want bs q
+      unary a is q p = passed_one (of k.signature) k.variables.now d want bs h.rest.now deep a q (with_sorts _ is) p
+
+      pub binary : (a b : ℕ) → h.parts ≡ arguments.Two a b → (q t : List ℕ) → passed (d - 1) a h.rest.now q → passed (d - 1) b q t → passed d want bs t
+      binary a b is q t p u = passed_two (of k.signature) k.variables.now d want bs h.rest.now deep a b q t (with_sorts _ is) p u

@@ -28,7 +28,7 @@ module _ (s : Sig) where
     pub front_constant : 2 < length bs → get_or bs 0 0 ≡ 0x21 → front s p bs ≡ (constant (get_or bs 1 0) (get_or bs 2 0), drop 3 bs)
     front_constant h e = rw (is_not 0x21 0x20 1 bs e (λ x. omega arith), is 0x21 2 bs h e)
 
-    pub front_apply : 1 < length bs → get_or bs 0 0 ≡ 0x22 → front s p bs ≡ applied p (get_or bs 1 0) (operation s (get_or bs 1 0)).arity (drop 2 bs)
+    pub front_apply : 1 < length bs → get_or bs 0 0 ≡ 0x22 → front s p bs ≡ applied p (get_or bs 1 0) (operation s (get_or bs 1 0)).arguments (drop 2 bs)
     front_apply h e = rw (is_not 0x22 0x20 1 bs e (λ x. omega arith), is_not 0x22 0x21 2 bs e (λ x. omega arith), is 0x22 1 bs h e)
 
     pub front_equal : 1 < length bs → get_or bs 0 0 ≡ 0x23 → front s p bs ≡ two p (equal (get_or bs 1 0)) (drop 2 bs)
@@ -50,7 +50,7 @@ module _ (s : Sig) where
     pub at_constant : 2 < length bs → get_or bs 0 0 ≡ 0x21 → term_at s d bs ≡ (constant (get_or bs 1 0) (get_or bs 2 0), drop 3 bs)
     at_constant h e = turn d bs deep ∙ front_constant (term_at s (d - 1)) bs h e
 
-    pub at_apply : 1 < length bs → get_or bs 0 0 ≡ 0x22 → term_at s d bs ≡ applied (term_at s (d - 1)) (get_or bs 1 0) (operation s (get_or bs 1 0)).arity (drop 2 bs)
+    pub at_apply : 1 < length bs → get_or bs 0 0 ≡ 0x22 → term_at s d bs ≡ applied (term_at s (d - 1)) (get_or bs 1 0) (operation s (get_or bs 1 0)).arguments (drop 2 bs)
     at_apply h e = turn d bs deep ∙ front_apply (term_at s (d - 1)) bs h e
 
     pub at_equal : 1 < length bs → get_or bs 0 0 ≡ 0x23 → term_at s d bs ≡ two (term_at s (d - 1)) (equal (get_or bs 1 0)) (drop 2 bs)

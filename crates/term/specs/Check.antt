@@ -7,12 +7,13 @@ use Rattle.term.specs.declared.fault.Fault.{Fault}
 use Rattle.term.specs.declared.fault.Fault.TheVariants as fault
 use Rattle.term.specs.declared.fault.FileFault.{FileFault}
 use Rattle.term.specs.declared.fault.Stage.TheVariants as stage
-use Rattle.term.specs.declared.signature.Operation.{Operation}
+use Rattle.term.specs.declared.signature.Arguments.{Arguments}
+use Rattle.term.specs.declared.signature.Arguments.TheVariants as arguments
 use Rattle.term.specs.Meaning.{Sig, bag_operation, operation, size}
 
--- the front of a term: how many parts follow, of which sorts, and what is left; or a fault
+-- the front of a term: the sorts of the parts that follow, and what is left; or a fault
 pub data Front : Type 0 where
-  front : ℕ → ℕ → ℕ → List ℕ → Front
+  front : Arguments → List ℕ → Front
   none : FileFault → Front
 
 -- what follows a term or a bag, or a fault
@@ -21,7 +22,7 @@ pub data Checked : Type 0 where
   bad : FileFault → Checked
 
 abbrev pub front_of : Result Head FileFault → Front
-front_of (Ok h) = front h.parts h.first h.second h.rest.now
+front_of (Ok h) = front h.parts h.rest.now
 front_of (Err e) = none e
 
 abbrev pub checked : Result (Bor (List ℕ)) FileFault → Checked
@@ -44,29 +45,26 @@ test ok f p r = cond ok r (none (in_term f p))
 abbrev pub variable_at : List ℕ → ℕ → List ℕ → ℕ → Front
 variable_at vars want bs ends =
     byte bs ends 1 (λ v. test (nat_lt v (length vars)) fault.Range (place bs ends 1)
-    (test (slice_index vars v == want) fault.Sort (place bs ends 1) (front 0 0 0 (drop 2 bs))))
+    (test (slice_index vars v == want) fault.Sort (place bs ends 1) (front arguments.None (drop 2 bs))))
 
 abbrev pub constant_at : Sig → ℕ → List ℕ → ℕ → Front
 constant_at s want bs ends =
     byte bs ends 1 (λ t. test (nat_lt t (length s.sizes)) fault.Range (place bs ends 1)
     (test (t == want) fault.Sort (place bs ends 1)
-    (byte bs ends 2 (λ e. test (nat_lt e (size s t)) fault.Range (place bs ends 2) (front 0 0 0 (drop 3 bs))))))
-
-abbrev pub applied : Operation → List ℕ → Front
-applied o r = front o.arity o.first o.second r
+    (byte bs ends 2 (λ e. test (nat_lt e (size s t)) fault.Range (place bs ends 2) (front arguments.None (drop 3 bs))))))
 
 abbrev pub application_at : Sig → ℕ → List ℕ → ℕ → Front
 application_at s want bs ends =
     byte bs ends 1 (λ o. test (nat_lt o (length s.operations)) fault.Range (place bs ends 1)
-    (test ((operation s o).result == want) fault.Sort (place bs ends 1) (applied (operation s o) (drop 2 bs))))
+    (test ((operation s o).result == want) fault.Sort (place bs ends 1) (front (operation s o).arguments (drop 2 bs))))
 
 abbrev pub equality_at : Sig → ℕ → List ℕ → ℕ → Front
 equality_at s want bs ends =
     test (want == 0) fault.Sort (place bs ends 0)
-    (byte bs ends 1 (λ t. test (nat_lt t (length s.sizes)) fault.Range (place bs ends 1) (front 2 t t (drop 2 bs))))
+    (byte bs ends 1 (λ t. test (nat_lt t (length s.sizes)) fault.Range (place bs ends 1) (front (arguments.Two t t) (drop 2 bs))))
 
-abbrev pub logic_at : ℕ → ℕ → List ℕ → ℕ → Front
-logic_at n want bs ends = test (want == 0) fault.Sort (place bs ends 0) (front n 0 0 (drop 1 bs))
+abbrev pub logic_at : Arguments → ℕ → List ℕ → ℕ → Front
+logic_at a want bs ends = test (want == 0) fault.Sort (place bs ends 0) (front a (drop 1 bs))
 
 abbrev pub head_at : Sig → List ℕ → Bool → ℕ → List ℕ → ℕ → Front
 head_at s vars deep want bs ends =
@@ -76,7 +74,7 @@ head_at s vars deep want bs ends =
     (cond (c == 0x21) (constant_at s want bs ends)
     (cond (c == 0x22) (application_at s want bs ends)
     (cond (c == 0x23) (equality_at s want bs ends)
-    (cond (c == 0x24) (logic_at 1 want bs ends) (logic_at 2 want bs ends))))))))
+    (cond (c == 0x24) (logic_at (arguments.One 0) want bs ends) (logic_at (arguments.Two 0 0) want bs ends))))))))
 
 -- one check, then another on what follows
 abbrev pub then : Checked → (List ℕ → Checked) → Checked
@@ -86,7 +84,9 @@ then (bad e) k = bad e
 -- the parts that a front asks for, each by t
 abbrev pub parts : (ℕ → List ℕ → Checked) → Front → Checked
 parts t (none e) = bad e
-parts t (front n a b r) = cond (nat_lt 0 n) (then (t a r) (λ q. cond (nat_lt 1 n) (t b q) (done q))) (done r)
+parts t (front arguments.None r) = done r
+parts t (front (arguments.One a) r) = t a r
+parts t (front (arguments.Two a b) r) = then (t a r) (t b)
 
 -- a term of sort want, of at most the given depth
 abbrev pub check_term : Sig → List ℕ → ℕ → ℕ → ℕ → List ℕ → Checked

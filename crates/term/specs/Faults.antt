@@ -1,7 +1,9 @@
--- The number of each fault.
-use Rattle.std.specs.Prelude.{ℕ}
+-- The number of each fault and the word for each stage, as reports print them.
+use Rattle.std.specs.Prelude.{ℕ, List, codes}
 use Rattle.term.specs.declared.fault.Fault.{Fault}
 use Rattle.term.specs.declared.fault.Fault.TheVariants as fault
+use Rattle.term.specs.declared.fault.Stage.{Stage}
+use Rattle.term.specs.declared.fault.Stage.TheVariants as stage
 
 abbrev pub number_of : Fault → ℕ
 number_of fault.TooLong = 1
@@ -28,3 +30,8 @@ number_of (fault.Full cell) = 21
 number_of fault.TrailFull = 22
 number_of fault.TrailEmpty = 23
 number_of fault.RecordingFull = 24
+
+abbrev pub word_of : Stage → List ℕ
+word_of stage.File = codes "file"
+word_of stage.Command = codes "command"
+word_of stage.Term = codes "term"

@@ -5,3 +5,5 @@ pub mod Check
 pub mod Shape
 pub mod Counts
 pub mod Worth
+pub mod Tally
+pub mod Adding

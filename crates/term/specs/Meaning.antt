@@ -1,7 +1,9 @@
 -- Terms and bags over a signature, and what they mean in a mode.
-use Rattle.std.specs.Prelude.{ℕ, ◌+◌, ◌*◌, Bool, true, cond, ◌&&◌, List, length, ◌==◌, nat_lt, slice_index, slice_index_or}
-use Rattle.term.specs.declared.signature.BagOperation.{BagOperation}
-use Rattle.term.specs.declared.signature.Operation.{Operation}
+use Rattle.std.specs.Prelude.{ℕ, ◌+◌, ◌*◌, Bool, true, cond, ◌&&◌, List, [], length, map, vec_items, ◌==◌, nat_lt, slice_index, slice_index_or}
+use Rattle.term.specs.declared.signature.Arguments.{Arguments}
+use Rattle.term.specs.declared.signature.Arguments.TheVariants as arguments
+use Rattle.term.specs.declared.signature.BagOperation as bags
+use Rattle.term.specs.declared.signature.Operation as operations
 use Rattle.term.specs.declared.signature.Signature.{Signature}
 
 -- a term; an argument that an operation does not have stands as the constant 0 of sort 0
@@ -20,22 +22,42 @@ pub data Bag : Type 0 where
   sum : Bag → Bag → Bag
   flexible : ℕ → Term → Bag
 
--- sorts by their sizes, operations and bag operations, with the tables of both
+-- an operation: the sorts of its arguments and of its result, and its results, the first argument slowest
+pub record Operation : Type 0 where
+  pub arguments : Arguments
+  pub result : ℕ
+  pub table : List ℕ
+
+-- a bag operation: for each argument a row of counts, one for each element of the result sort
+pub record BagOperation : Type 0 where
+  pub argument : ℕ
+  pub result : ℕ
+  pub table : List ℕ
+
+-- sorts by their sizes, operations and bag operations
 pub record Sig : Type 0 where
   pub sizes : List ℕ
   pub operations : List Operation
   pub bags : List BagOperation
-  pub tables : List ℕ
+
+-- what an operation in memory says
+abbrev pub operation_said : operations.Operation → Operation
+operation_said o = record { arguments = o.arguments; result = o.result; table = vec_items o.table }
+
+abbrev pub bag_said : bags.BagOperation → BagOperation
+bag_said o = record { argument = o.argument; result = o.result; table = vec_items o.table }
 
 -- what a signature in memory says
 abbrev pub of : Signature → Sig
-of s = record { sizes = s.sizes.now; operations = s.operations.now; bags = s.bags.now; tables = s.tables.now }
+of s = record { sizes = s.sizes.now; operations = map operation_said s.operations.now; bags = map bag_said s.bags.now }
 
+-- gives 0
 abbrev pub no_operation : Operation
-no_operation = record { arity = 0; first = 0; second = 0; result = 0; table = 0 }
+no_operation = record { arguments = arguments.None; result = 0; table = [] }
 
+-- gives nothing
 abbrev pub no_bag : BagOperation
-no_bag = record { argument = 0; result = 0; table = 0 }
+no_bag = record { argument = 0; result = 0; table = [] }
 
 abbrev pub operation : Sig → ℕ → Operation
 operation s k = slice_index_or s.operations k no_operation
@@ -47,13 +69,19 @@ bag_operation s k = slice_index_or s.bags k no_bag
 abbrev pub size : Sig → ℕ → ℕ
 size s sort = slice_index s.sizes sort
 
--- an operation's result, the first argument slowest
+-- how many results stand together for one first argument
+abbrev pub width : Sig → Arguments → ℕ
+width s arguments.None = 1
+width s (arguments.One a) = 1
+width s (arguments.Two a b) = size s b
+
+-- an operation's result
 abbrev pub result : Sig → Operation → ℕ → ℕ → ℕ
-result s o a b = slice_index s.tables (o.table + (a * cond (o.arity == 2) (size s o.second) 1 + b))
+result s o a b = slice_index o.table (a * width s o.arguments + b)
 
 -- how often an element is in what a bag operation gives
 abbrev pub copies_in : Sig → BagOperation → ℕ → ℕ → ℕ
-copies_in s o a e = cond (nat_lt e (size s o.result)) (slice_index s.tables (o.table + (a * size s o.result + e))) 0
+copies_in s o a e = cond (nat_lt e (size s o.result)) (slice_index o.table (a * size s o.result + e)) 0
 
 abbrev pub truth : Bool → ℕ
 truth t = cond t 1 0
@@ -74,14 +102,19 @@ count s m (single t) e = truth (value s m t == e)
 count s m (sum a b) e = count s m a e + count s m b e
 count s m (flexible k t) e = copies_in s (bag_operation s k) (value s m t) e
 
+-- the arguments that there are pass: the first by f, the second by g
+abbrev pub each : (ℕ → Bool) → (ℕ → Bool) → Arguments → Bool
+each f g arguments.None = true
+each f g (arguments.One a) = f a
+each f g (arguments.Two a b) = f a && g b
+
 -- a term is of a sort, over variables of the given sorts
 abbrev pub sorted : Sig → List ℕ → ℕ → Term → Bool
 sorted s vs w (variable v) = nat_lt v (length vs) && slice_index vs v == w
 sorted s vs w (constant sort e) = sort == w && nat_lt e (size s sort)
 sorted s vs w (apply k a b) =
     nat_lt k (length s.operations) && ((operation s k).result == w
-    && (cond (nat_lt 0 (operation s k).arity) (sorted s vs (operation s k).first a) true
-    && cond (nat_lt 1 (operation s k).arity) (sorted s vs (operation s k).second b) true))
+    && each (λ v. sorted s vs v a) (λ v. sorted s vs v b) (operation s k).arguments)
 sorted s vs w (equal sort a b) = w == 0 && (nat_lt sort (length s.sizes) && (sorted s vs sort a && sorted s vs sort b))
 sorted s vs w (negate a) = w == 0 && sorted s vs 0 a
 sorted s vs w (both a b) = w == 0 && (sorted s vs 0 a && sorted s vs 0 b)

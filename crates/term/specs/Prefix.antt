@@ -1,5 +1,7 @@
 -- Terms and bags as bytes, in prefix form. Bytes that are none stand for the constant 0 or the empty bag.
 use Rattle.std.specs.Prelude.{ℕ, zero, suc, Bool, cond, ◌&&◌, List, length, drop, ◌==◌, nat_lt, slice_index}
+use Rattle.term.specs.declared.signature.Arguments.{Arguments}
+use Rattle.term.specs.declared.signature.Arguments.TheVariants as arguments
 use Rattle.term.specs.Meaning.{Sig, Term, variable, constant, apply, equal, negate, both, Bag, empty, single, sum, flexible, operation}
 
 -- the bytes begin with the code k, and more than n follow it
@@ -23,15 +25,17 @@ abbrev pub two : (List ℕ → Read) → (Term → Term → Term) → List ℕ �
 two p f bs = (f (p bs).0 (p (p bs).1).0, (p (p bs).1).1)
 
 -- an operation with as many parts as it has arguments
-abbrev pub applied : (List ℕ → Read) → ℕ → ℕ → List ℕ → Read
-applied p k n bs = cond (n == 0) (apply k missing missing, bs) (cond (n == 1) (one p (λ a. apply k a missing) bs) (two p (apply k) bs))
+abbrev pub applied : (List ℕ → Read) → ℕ → Arguments → List ℕ → Read
+applied p k arguments.None bs = (apply k missing missing, bs)
+applied p k (arguments.One a) bs = one p (λ x. apply k x missing) bs
+applied p k (arguments.Two a b) bs = two p (apply k) bs
 
 -- a term whose parts are read by p
 abbrev pub front : Sig → (List ℕ → Read) → List ℕ → Read
 front s p bs =
     cond (begins 0x20 1 bs) (variable (slice_index bs 1), drop 2 bs)
     (cond (begins 0x21 2 bs) (constant (slice_index bs 1) (slice_index bs 2), drop 3 bs)
-    (cond (begins 0x22 1 bs) (applied p (slice_index bs 1) (operation s (slice_index bs 1)).arity (drop 2 bs))
+    (cond (begins 0x22 1 bs) (applied p (slice_index bs 1) (operation s (slice_index bs 1)).arguments (drop 2 bs))
     (cond (begins 0x23 1 bs) (two p (equal (slice_index bs 1)) (drop 2 bs))
     (cond (begins 0x24 0 bs) (one p negate (drop 1 bs))
     (cond (begins 0x25 0 bs) (two p both (drop 1 bs)) (missing, bs))))))

@@ -1,78 +1,79 @@
-ghost use Rattle.std.specs.Prelude.{◌≡◌, ◌*◌, if◌then◌else◌, nat_eq};
+ghost use Rattle.std.specs.Prelude.{◌≡◌, ◌*◌};
 ghost use Rattle.term.specs.Counts.{Added};
-ghost use Rattle.term.specs.Meaning.{of, bag_operation as bag_of, copies_in, count};
+ghost use Rattle.term.specs.Meaning.{of, count};
 ghost use Rattle.term.specs.Prefix.{bag_at};
+ghost use Rattle.term.specs.Worth.{Weighs, most, on_place};
 
-use crate::evaluate::{at, value};
-use crate::signature::{BagOperation, Signature};
+use crate::evaluate::Evaluator;
+use crate::tally::{Counts, Tally, Weights};
+use domain::WeightDomain;
 
-pub(crate) fn bag_operation(s: Signature, k: u8) -> BagOperation
-    ensures { result ≡ bag_of (of s.entry) k }
-{
-    let k = k as usize;
-    if k < s.bags.len() {
-        s.bags[k]
-    } else {
-        BagOperation {
-            argument: 0,
-            result: 0,
-            table: 0,
+impl<'s> Evaluator<'s> {
+    // Adds the bag at the front of `bytes`, and gives what follows the bag.
+    fn add_bag<'f, T: Tally>(&self, bytes: &'f [u8], depth: u8, tally: &mut T) -> &'f [u8]
+        ensures sum { T.gains tally.old (count (of self.now.signature) self.now.mode.now (bag_at (of self.now.signature) depth bytes.now).0) (most (bag_at (of self.now.signature) depth bytes.now).0) tally.new }
+        ensures rest { result.now ≡ (bag_at (of self.now.signature) depth bytes.now).1 }
+    {
+        if depth == 0 {
+            return bytes;
+        }
+        match bytes {
+            [0x30, rest @ ..] => rest,
+            [0x31, rest @ ..] => {
+                let (element, rest) = self.value(rest, depth - 1);
+                tally.add(element, 1);
+                rest
+            }
+            [0x32, rest @ ..] => {
+                let rest = self.add_bag(rest, depth - 1, tally);
+                self.add_bag(rest, depth - 1, tally)
+            }
+            [0x33, k, rest @ ..] => {
+                let (argument, rest) = self.value(rest, depth - 1);
+                if let Some(o) = self.signature.bag_operation(*k) {
+                    tally.add_row(self.signature.row(o, argument));
+                }
+                rest
+            }
+            _ => bytes,
         }
     }
-}
 
-// Adds `n` tokens of an element to the counts of a place.
-fn add(counts: &mut [u32], place: u8, element: u8, n: u8)
-    ensures { Added counts.old counts.new (64 * place) (λ e. (if nat_eq element e then n else 0)) }
-{
-    let cell = 64 * place as usize + element as usize;
-    if cell < counts.len() {
-        counts[cell] = counts[cell].saturating_add(u32::from(n));
+    // Adds the bag at the front of `bytes` to the counts of a place, and gives what follows the bag.
+    pub fn count_bag<'f>(
+        &self,
+        bytes: &'f [u8],
+        depth: u8,
+        place: u8,
+        counts: &mut [u32],
+    ) -> &'f [u8]
+        ensures counts { Added counts.old counts.new (64 * place) (count (of self.now.signature) self.now.mode.now (bag_at (of self.now.signature) depth bytes.now).0) }
+        ensures rest { result.now ≡ (bag_at (of self.now.signature) depth bytes.now).1 }
+    {
+        let mut tally = Counts { place, counts };
+        self.add_bag(bytes, depth, &mut tally)
     }
-}
 
-// Adds what a bag operation gives at `argument` to the counts of a place.
-fn add_row(s: Signature, o: BagOperation, argument: u8, place: u8, counts: &mut [u32])
-    ensures { Added counts.old counts.new (64 * place) (copies_in (of s.entry) o argument) }
-{
-    let size = at(s.sizes, o.result as usize);
-    let row = o.table as usize + argument as usize * size as usize;
-    for e in 0..size {
-        add(counts, place, e, at(s.tables, row + e as usize));
-    }
-}
-
-// Adds the bag at the front of `bytes` to the counts of a place, and gives what follows the bag.
-pub fn count_bag<'f>(
-    s: Signature,
-    mode: &[u8],
-    bytes: &'f [u8],
-    depth: u8,
-    place: u8,
-    counts: &mut [u32],
-) -> &'f [u8]
-    ensures counts { Added counts.old counts.new (64 * place) (count (of s.entry) mode.now (bag_at (of s.entry) depth bytes.now).0) }
-    ensures rest { result.now ≡ (bag_at (of s.entry) depth bytes.now).1 }
-{
-    if depth == 0 {
-        return bytes;
-    }
-    match bytes {
-        [0x30, rest @ ..] => rest,
-        [0x31, rest @ ..] => {
-            let (element, rest) = value(s, mode, rest, depth - 1);
-            add(counts, place, element, 1);
-            rest
-        }
-        [0x32, rest @ ..] => {
-            let rest = count_bag(s, mode, rest, depth - 1, place, counts);
-            count_bag(s, mode, rest, depth - 1, place, counts)
-        }
-        [0x33, k, rest @ ..] => {
-            let (argument, rest) = value(s, mode, rest, depth - 1);
-            add_row(s, bag_operation(s, *k), argument, place, counts);
-            rest
-        }
-        _ => bytes,
+    // Adds the bag at the front of `bytes`, on a place, to a value, and gives what follows the bag.
+    pub fn weigh_bag<'f, D: WeightDomain>(
+        &self,
+        bytes: &'f [u8],
+        depth: u8,
+        d: &D,
+        codes: &[i32],
+        place: u8,
+        sum: D::Value,
+    ) -> (D::Value, &'f [u8])
+        ensures sum { Weighs (D.meaning d.now) codes.now sum (on_place place (count (of self.now.signature) self.now.mode.now (bag_at (of self.now.signature) depth bytes.now).0)) (most (bag_at (of self.now.signature) depth bytes.now).0) result.0 }
+        ensures rest { result.1.now ≡ (bag_at (of self.now.signature) depth bytes.now).1 }
+    {
+        let mut tally = Weights {
+            domain: d,
+            codes,
+            place,
+            sum,
+        };
+        let rest = self.add_bag(bytes, depth, &mut tally);
+        (tally.sum, rest)
     }
 }

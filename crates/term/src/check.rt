@@ -1,264 +1,215 @@
-ghost use Rattle.std.specs.Prelude.{◌≡◌, ℕ, ◌+◌, ◌<◌, List, length, IfOk, slice_index};
-ghost use Rattle.term.specs.Check.{Checked, application_at, check_bag, check_term, checked, constant_at, equality_at, flexible_at, front_of, head_at, in_term, logic_at, onward, variable_at};
-ghost use Rattle.term.specs.Meaning.{Sig, of};
-ghost use Rattle.term.specs.Shape.{Few, Flexible, Passed, PassedBag, Shape};
+ghost use Rattle.std.specs.Prelude.{◌≡◌, ℕ, ◌<◌, ◌≤◌, List, length, IfOk, slice_index};
+ghost use Rattle.term.specs.Check.{Checked, application_at, check_bag, check_term, checked, constant_at, equality_at, flexible_at, front_of, head_at, in_term, onward, place, variable_at};
+ghost use Rattle.term.specs.Meaning.{of};
+ghost use Rattle.term.specs.Shape.{Flexible, Passed, PassedBag, Shape};
 
 use crate::fault::{Fault, FileFault, Stage};
-use crate::signature::Signature;
+use crate::signature::{Arguments, Signature};
 
-// What stands at the front of a term: how many parts follow, and of which sorts.
+// What a term or a bag is checked against: `ends` is the length of the file.
+#[derive(Clone, Copy)]
+pub struct Checker<'s> {
+    pub signature: Signature<'s>,
+    pub variables: &'s [u8],
+    pub ends: usize,
+}
+
+// What stands at the front of a term: the sorts of the parts that follow, and where they begin.
 #[derive(Clone, Copy)]
 pub(crate) struct Head<'f> {
-    pub(crate) parts: u8,
-    pub(crate) first: u8,
-    pub(crate) second: u8,
+    pub(crate) parts: Arguments,
     pub(crate) rest: &'f [u8],
 }
 
-fn refused(fault: Fault, place: usize) -> FileFault
-    ensures { result ≡ in_term fault place }
-{
-    FileFault {
-        fault,
-        place,
-        stage: Stage::Term,
+impl<'s> Checker<'s> {
+    // A fault at the byte `k` of what is left. It stands beside the one of net files' commands, whose stage is another.
+    fn refused(&self, fault: Fault, bytes: &[u8], k: usize) -> FileFault
+        requires { k ≤ length bytes.now }
+        ensures { result ≡ in_term fault (place bytes.now self.now.ends k) }
+    {
+        FileFault {
+            fault,
+            place: self.ends.saturating_sub(bytes.len()) + k,
+            stage: Stage::Term,
+        }
     }
-}
 
-// number of a variable
-fn variable<'f>(
-    variables: &[u8],
-    bytes: &'f [u8],
-    ends: usize,
-    want: u8,
-) -> Result<Head<'f>, FileFault>
-    requires begins { (0 < length bytes.now) × (slice_index bytes.now 0 ≡ 0x20) }
-    ensures value { front_of result ≡ variable_at variables.now want bytes.now ends }
-    ensures shorter { IfOk result (λ h. length h.rest.now < length bytes.now) }
-    ensures shape { IfOk result (λ h. (s : Sig) → Shape s variables.now want bytes.now h.parts h.first h.second h.rest.now) }
-{
-    let at = ends.saturating_sub(bytes.len());
-    match bytes {
-        [_, number, ..] if *number as usize >= variables.len() => Err(refused(
-            Fault::Range,
-            at + 1,
-        )),
-        [_, number, ..] if variables[*number as usize] != want => Err(refused(Fault::Sort, at + 1)),
-        [_, _, rest @ ..] => Ok(Head {
-            parts: 0,
-            first: 0,
-            second: 0,
-            rest,
-        }),
-        _ => Err(refused(Fault::Ends, ends)),
+    // The file ends within a term or a bag.
+    fn ended(&self) -> FileFault
+        ensures { result ≡ in_term Fault.Ends self.now.ends }
+    {
+        FileFault {
+            fault: Fault::Ends,
+            place: self.ends,
+            stage: Stage::Term,
+        }
     }
-}
 
-// sort, element
-fn constant<'f>(s: Signature, bytes: &'f [u8], ends: usize, want: u8) -> Result<Head<'f>, FileFault>
-    requires begins { (0 < length bytes.now) × (slice_index bytes.now 0 ≡ 0x21) }
-    ensures value { front_of result ≡ constant_at (of s.entry) want bytes.now ends }
-    ensures shorter { IfOk result (λ h. length h.rest.now < length bytes.now) }
-    ensures shape { IfOk result (λ h. (v : List ℕ) → Shape (of s.entry) v want bytes.now h.parts h.first h.second h.rest.now) }
-{
-    let at = ends.saturating_sub(bytes.len());
-    match bytes {
-        [_, sort, ..] if *sort as usize >= s.sizes.len() => Err(refused(Fault::Range, at + 1)),
-        [_, sort, ..] if *sort != want => Err(refused(Fault::Sort, at + 1)),
-        [_, sort, element, ..] if *element >= s.sizes[*sort as usize] => Err(refused(
-            Fault::Range,
-            at + 2,
-        )),
-        [_, _, _, rest @ ..] => Ok(Head {
-            parts: 0,
-            first: 0,
-            second: 0,
-            rest,
-        }),
-        _ => Err(refused(Fault::Ends, ends)),
-    }
-}
-
-// number of an operation
-fn application<'f>(
-    s: Signature,
-    bytes: &'f [u8],
-    ends: usize,
-    want: u8,
-) -> Result<Head<'f>, FileFault>
-    requires begins { (0 < length bytes.now) × (slice_index bytes.now 0 ≡ 0x22) }
-    ensures value { front_of result ≡ application_at (of s.entry) want bytes.now ends }
-    ensures shorter { IfOk result (λ h. length h.rest.now < length bytes.now) }
-    ensures shape { IfOk result (λ h. Few (of s.entry) → (v : List ℕ) → Shape (of s.entry) v want bytes.now h.parts h.first h.second h.rest.now) }
-{
-    let at = ends.saturating_sub(bytes.len());
-    match bytes {
-        [_, number, rest @ ..] => {
-            if *number as usize >= s.operations.len() {
-                return Err(refused(Fault::Range, at + 1));
-            }
-            let o = s.operations[*number as usize];
-            if o.result != want {
-                return Err(refused(Fault::Sort, at + 1));
-            }
-            Ok(Head {
-                parts: o.arity,
-                first: o.first,
-                second: o.second,
+    // number of a variable
+    fn variable<'f>(&self, bytes: &'f [u8], want: u8) -> Result<Head<'f>, FileFault>
+        requires begins { (0 < length bytes.now) × (slice_index bytes.now 0 ≡ 0x20) }
+        ensures value { front_of result ≡ variable_at self.now.variables.now want bytes.now self.now.ends }
+        ensures shape { IfOk result (λ h. Shape (of self.now.signature) self.now.variables.now want bytes.now h.parts h.rest.now) }
+    {
+        let [_, number, rest @ ..] = bytes else {
+            return Err(self.ended());
+        };
+        match self.variables.get(*number as usize) {
+            None => Err(self.refused(Fault::Range, bytes, 1)),
+            Some(sort) if *sort != want => Err(self.refused(Fault::Sort, bytes, 1)),
+            Some(_) => Ok(Head {
+                parts: Arguments::None,
                 rest,
-            })
+            }),
         }
-        _ => Err(refused(Fault::Ends, ends)),
     }
-}
 
-// sort of both parts
-fn equality<'f>(s: Signature, bytes: &'f [u8], ends: usize, want: u8) -> Result<Head<'f>, FileFault>
-    requires begins { (0 < length bytes.now) × (slice_index bytes.now 0 ≡ 0x23) }
-    ensures value { front_of result ≡ equality_at (of s.entry) want bytes.now ends }
-    ensures shorter { IfOk result (λ h. length h.rest.now < length bytes.now) }
-    ensures shape { IfOk result (λ h. (v : List ℕ) → Shape (of s.entry) v want bytes.now h.parts h.first h.second h.rest.now) }
-{
-    let at = ends.saturating_sub(bytes.len());
-    match bytes {
-        _ if want != 0 => Err(refused(Fault::Sort, at)),
-        [_, sort, ..] if *sort as usize >= s.sizes.len() => Err(refused(Fault::Range, at + 1)),
-        [_, sort, rest @ ..] => Ok(Head {
-            parts: 2,
-            first: *sort,
-            second: *sort,
-            rest,
-        }),
-        _ => Err(refused(Fault::Ends, ends)),
-    }
-}
-
-// not, with one part, and `and`, with two
-fn logic<'f>(parts: u8, bytes: &'f [u8], ends: usize, want: u8) -> Result<Head<'f>, FileFault>
-    requires begins { (0 < length bytes.now) × (slice_index bytes.now 0 ≡ 0x23 + parts) × (0 < parts) × (parts < 3) }
-    ensures value { front_of result ≡ logic_at parts want bytes.now ends }
-    ensures shorter { IfOk result (λ h. length h.rest.now < length bytes.now) }
-    ensures shape { IfOk result (λ h. (s : Sig) (v : List ℕ) → Shape s v want bytes.now h.parts h.first h.second h.rest.now) }
-{
-    let at = ends.saturating_sub(bytes.len());
-    match bytes {
-        _ if want != 0 => Err(refused(Fault::Sort, at)),
-        [_, rest @ ..] => Ok(Head {
-            parts,
-            first: 0,
-            second: 0,
-            rest,
-        }),
-        [] => Err(refused(Fault::Ends, ends)),
-    }
-}
-
-// The front of a term of sort `want`, where `ends` is the length of the file.
-fn read_head<'f>(
-    s: Signature,
-    variables: &[u8],
-    bytes: &'f [u8],
-    ends: usize,
-    deep: bool,
-    want: u8,
-) -> Result<Head<'f>, FileFault>
-    ensures value { front_of result ≡ head_at (of s.entry) variables.now deep want bytes.now ends }
-    ensures shorter { IfOk result (λ h. length h.rest.now < length bytes.now) }
-    ensures shape { IfOk result (λ h. Few (of s.entry) → Shape (of s.entry) variables.now want bytes.now h.parts h.first h.second h.rest.now) }
-{
-    let at = ends.saturating_sub(bytes.len());
-    match bytes {
-        [] => Err(refused(Fault::Ends, ends)),
-        [0x20..=0x25, ..] if deep => Err(refused(Fault::Deep, at)),
-        [0x20, ..] => variable(variables, bytes, ends, want),
-        [0x21, ..] => constant(s, bytes, ends, want),
-        [0x22, ..] => application(s, bytes, ends, want),
-        [0x23, ..] => equality(s, bytes, ends, want),
-        [0x24, ..] => logic(1, bytes, ends, want),
-        [0x25, ..] => logic(2, bytes, ends, want),
-        [_, ..] => Err(refused(Fault::NoCommand, at)),
-    }
-}
-
-// Checks a term of sort `want`, of at most the depth `depth`, and gives what follows it.
-pub fn check_term<'f>(
-    s: Signature,
-    variables: &[u8],
-    bytes: &'f [u8],
-    ends: usize,
-    depth: u8,
-    want: u8,
-) -> Result<&'f [u8], FileFault>
-    ensures value { checked result ≡ check_term (of s.entry) variables.now ends depth want bytes.now }
-    ensures shorter { IfOk result (λ t. length t.now < length bytes.now) }
-    ensures passed { IfOk result (λ t. Few (of s.entry) → Passed (of s.entry) variables.now depth want bytes.now t.now) }
-{
-    let front = read_head(s, variables, bytes, ends, depth == 0, want)?;
-    if front.parts == 0 {
-        return Ok(front.rest);
-    }
-    let rest = check_term(s, variables, front.rest, ends, depth - 1, front.first)?;
-    if front.parts == 1 {
-        return Ok(rest);
-    }
-    check_term(s, variables, rest, ends, depth - 1, front.second)
-}
-
-// Checks a bag over the sort `want`, of at most the depth `depth`, and gives what follows it.
-pub fn check_bag<'f>(
-    s: Signature,
-    variables: &[u8],
-    bytes: &'f [u8],
-    ends: usize,
-    depth: u8,
-    want: u8,
-) -> Result<&'f [u8], FileFault>
-    ensures value { checked result ≡ check_bag (of s.entry) variables.now ends depth want bytes.now }
-    ensures shorter { IfOk result (λ t. length t.now < length bytes.now) }
-    ensures passed { IfOk result (λ t. Few (of s.entry) → PassedBag (of s.entry) variables.now depth want bytes.now t.now) }
-{
-    let at = ends.saturating_sub(bytes.len());
-    match bytes {
-        [] => Err(refused(Fault::Ends, ends)),
-        [0x30..=0x33, ..] if depth == 0 => Err(refused(Fault::Deep, at)),
-        [0x30, rest @ ..] => Ok(rest),
-        [0x31, rest @ ..] => check_term(s, variables, rest, ends, depth - 1, want),
-        [0x32, rest @ ..] => match check_bag(s, variables, rest, ends, depth - 1, want) {
-            Ok(rest) => check_bag(s, variables, rest, ends, depth - 1, want),
-            Err(e) => Err(e),
-        },
-        [0x33, ..] => match flexible(s, bytes, ends, want) {
-            Ok((argument, rest)) => check_term(s, variables, rest, ends, depth - 1, argument),
-            Err(e) => Err(e),
-        },
-        [_, ..] => Err(refused(Fault::NoCommand, at)),
-    }
-}
-
-// The argument sort of a bag operation over `want`, and what follows its number.
-fn flexible<'f>(
-    s: Signature,
-    bytes: &'f [u8],
-    ends: usize,
-    want: u8,
-) -> Result<(u8, &'f [u8]), FileFault>
-    requires begins { 0 < length bytes.now }
-    ensures value { (t : ℕ → List ℕ → Checked) → onward t result ≡ flexible_at (of s.entry) t want bytes.now ends }
-    ensures shorter { IfOk result (λ h. length h.1.now < length bytes.now) }
-    ensures found { IfOk result (λ h. Flexible (of s.entry) want bytes.now h.0 h.1.now) }
-{
-    let at = ends.saturating_sub(bytes.len());
-    match bytes {
-        [_, number, rest @ ..] => {
-            if *number as usize >= s.bags.len() {
-                return Err(refused(Fault::Range, at + 1));
-            }
-            let o = s.bags[*number as usize];
-            if o.result != want {
-                return Err(refused(Fault::Sort, at + 1));
-            }
-            Ok((o.argument, rest))
+    // sort, element
+    fn constant<'f>(&self, bytes: &'f [u8], want: u8) -> Result<Head<'f>, FileFault>
+        requires begins { (0 < length bytes.now) × (slice_index bytes.now 0 ≡ 0x21) }
+        ensures value { front_of result ≡ constant_at (of self.now.signature) want bytes.now self.now.ends }
+        ensures shape { IfOk result (λ h. Shape (of self.now.signature) self.now.variables.now want bytes.now h.parts h.rest.now) }
+    {
+        let sizes = self.signature.sizes;
+        match bytes {
+            [_, sort, ..] if *sort as usize >= sizes.len() => Err(self.refused(
+                Fault::Range,
+                bytes,
+                1,
+            )),
+            [_, sort, ..] if *sort != want => Err(self.refused(Fault::Sort, bytes, 1)),
+            [_, sort, element, ..] if *element >= sizes[*sort as usize] => Err(self.refused(
+                Fault::Range,
+                bytes,
+                2,
+            )),
+            [_, _, _, rest @ ..] => Ok(Head {
+                parts: Arguments::None,
+                rest,
+            }),
+            _ => Err(self.ended()),
         }
-        _ => Err(refused(Fault::Ends, ends)),
+    }
+
+    // number of an operation
+    fn application<'f>(&self, bytes: &'f [u8], want: u8) -> Result<Head<'f>, FileFault>
+        requires begins { (0 < length bytes.now) × (slice_index bytes.now 0 ≡ 0x22) }
+        ensures value { front_of result ≡ application_at (of self.now.signature) want bytes.now self.now.ends }
+        ensures shape { IfOk result (λ h. Shape (of self.now.signature) self.now.variables.now want bytes.now h.parts h.rest.now) }
+    {
+        let [_, number, rest @ ..] = bytes else {
+            return Err(self.ended());
+        };
+        match self.signature.operations.get(*number as usize) {
+            None => Err(self.refused(Fault::Range, bytes, 1)),
+            Some(o) if o.result != want => Err(self.refused(Fault::Sort, bytes, 1)),
+            Some(o) => Ok(Head {
+                parts: o.arguments,
+                rest,
+            }),
+        }
+    }
+
+    // sort of both parts
+    fn equality<'f>(&self, bytes: &'f [u8], want: u8) -> Result<Head<'f>, FileFault>
+        requires begins { (0 < length bytes.now) × (slice_index bytes.now 0 ≡ 0x23) }
+        ensures value { front_of result ≡ equality_at (of self.now.signature) want bytes.now self.now.ends }
+        ensures shape { IfOk result (λ h. Shape (of self.now.signature) self.now.variables.now want bytes.now h.parts h.rest.now) }
+    {
+        match bytes {
+            _ if want != 0 => Err(self.refused(Fault::Sort, bytes, 0)),
+            [_, sort, ..] if *sort as usize >= self.signature.sizes.len() => Err(self.refused(
+                Fault::Range,
+                bytes,
+                1,
+            )),
+            [_, sort, rest @ ..] => Ok(Head {
+                parts: Arguments::Two(*sort, *sort),
+                rest,
+            }),
+            _ => Err(self.ended()),
+        }
+    }
+
+    // The front of a term of sort `want`; not and `and` have parts of sort 0. `deep` is a bool and no depth: the depth is
+    // the caller's, which takes one off for each part.
+    fn head<'f>(&self, bytes: &'f [u8], deep: bool, want: u8) -> Result<Head<'f>, FileFault>
+        ensures value { front_of result ≡ head_at (of self.now.signature) self.now.variables.now deep want bytes.now self.now.ends }
+        ensures shape { IfOk result (λ h. Shape (of self.now.signature) self.now.variables.now want bytes.now h.parts h.rest.now) }
+    {
+        match bytes {
+            [] => Err(self.ended()),
+            [0x20..=0x25, ..] if deep => Err(self.refused(Fault::Deep, bytes, 0)),
+            [0x20, ..] => self.variable(bytes, want),
+            [0x21, ..] => self.constant(bytes, want),
+            [0x22, ..] => self.application(bytes, want),
+            [0x23, ..] => self.equality(bytes, want),
+            [0x24 | 0x25, ..] if want != 0 => Err(self.refused(Fault::Sort, bytes, 0)),
+            [0x24, rest @ ..] => Ok(Head {
+                parts: Arguments::One(0),
+                rest,
+            }),
+            [0x25, rest @ ..] => Ok(Head {
+                parts: Arguments::Two(0, 0),
+                rest,
+            }),
+            [_, ..] => Err(self.refused(Fault::NoCommand, bytes, 0)),
+        }
+    }
+
+    // Checks a term of sort `want`, of at most the depth `depth`, and gives what follows it.
+    pub fn term<'f>(&self, bytes: &'f [u8], depth: u8, want: u8) -> Result<&'f [u8], FileFault>
+        ensures value { checked result ≡ check_term (of self.now.signature) self.now.variables.now self.now.ends depth want bytes.now }
+        ensures shorter { IfOk result (λ t. length t.now < length bytes.now) }
+        ensures passed { IfOk result (λ t. Passed (of self.now.signature) self.now.variables.now depth want bytes.now t.now) }
+    {
+        let head = self.head(bytes, depth == 0, want)?;
+        match head.parts {
+            Arguments::None => Ok(head.rest),
+            Arguments::One(a) => self.term(head.rest, depth - 1, a),
+            Arguments::Two(a, b) => {
+                let rest = self.term(head.rest, depth - 1, a)?;
+                self.term(rest, depth - 1, b)
+            }
+        }
+    }
+
+    // Checks a bag over the sort `want`, of at most the depth `depth`, and gives what follows it.
+    pub fn bag<'f>(&self, bytes: &'f [u8], depth: u8, want: u8) -> Result<&'f [u8], FileFault>
+        ensures value { checked result ≡ check_bag (of self.now.signature) self.now.variables.now self.now.ends depth want bytes.now }
+        ensures shorter { IfOk result (λ t. length t.now < length bytes.now) }
+        ensures passed { IfOk result (λ t. PassedBag (of self.now.signature) self.now.variables.now depth want bytes.now t.now) }
+    {
+        match bytes {
+            [] => Err(self.ended()),
+            [0x30..=0x33, ..] if depth == 0 => Err(self.refused(Fault::Deep, bytes, 0)),
+            [0x30, rest @ ..] => Ok(rest),
+            [0x31, rest @ ..] => self.term(rest, depth - 1, want),
+            [0x32, rest @ ..] => {
+                let rest = self.bag(rest, depth - 1, want)?;
+                self.bag(rest, depth - 1, want)
+            }
+            [0x33, ..] => {
+                let (argument, rest) = self.flexible(bytes, want)?;
+                self.term(rest, depth - 1, argument)
+            }
+            [_, ..] => Err(self.refused(Fault::NoCommand, bytes, 0)),
+        }
+    }
+
+    // The argument sort of a bag operation over `want`, and what follows its number.
+    fn flexible<'f>(&self, bytes: &'f [u8], want: u8) -> Result<(u8, &'f [u8]), FileFault>
+        requires begins { 0 < length bytes.now }
+        ensures value { (t : ℕ → List ℕ → Checked) → onward t result ≡ flexible_at (of self.now.signature) t want bytes.now self.now.ends }
+        ensures found { IfOk result (λ h. Flexible (of self.now.signature) want bytes.now h.0 h.1.now) }
+    {
+        let [_, number, rest @ ..] = bytes else {
+            return Err(self.ended());
+        };
+        match self.signature.bags.get(*number as usize) {
+            None => Err(self.refused(Fault::Range, bytes, 1)),
+            Some(o) if o.result != want => Err(self.refused(Fault::Sort, bytes, 1)),
+            Some(o) => Ok((o.argument, rest)),
+        }
     }
 }

@@ -5,13 +5,10 @@ pub mod bag;
 pub mod check;
 pub mod evaluate;
 pub mod fault;
-pub mod number;
 pub mod signature;
-pub mod weigh;
+mod tally;
 
-pub use bag::count_bag;
-pub use check::{check_bag, check_term};
-pub use evaluate::value;
+pub use check::Checker;
+pub use evaluate::Evaluator;
 pub use fault::{Fault, FileFault, Stage};
-pub use signature::{BagOperation, Operation, Signature};
-pub use weigh::weigh_bag;
+pub use signature::{Arguments, BagOperation, Operation, Signature};

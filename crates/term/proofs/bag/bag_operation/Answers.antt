@@ -1,7 +1,0 @@
-use Rattle.std.proofs.Common.{sym, arith}
-use Rattle.std.proofs.lemmas.List.{get_or_past}
-use Rattle.term.specs.Meaning.{no_bag}
-use Rattle.term.proofs.bag.bag_operation.Goals as goal
-
-pub returns-else-k-s : goal.returns-else-k-s
-returns-else-k-s c = sym (get_or_past c.args.s.bags.now c.args.k no_bag (omega arith))

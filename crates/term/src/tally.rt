@@ -1,0 +1,110 @@
+// What the tokens of a bag are added to: counts in memory, or a value in a weight domain.
+ghost use Rattle.std.specs.Prelude.{◌≡◌, ℕ, ◌*◌, ◌<◌, if◌then◌else◌, length, nat_eq, slice_index};
+ghost use Rattle.term.specs.Adding.{counts_add, weights_add};
+ghost use Rattle.term.specs.Counts.{Added};
+ghost use Rattle.term.specs.Tally.{Adds, CountGains, WeightGains};
+
+use domain::WeightDomain;
+use std::mem;
+
+// `gains` says what tokens make of one state: how many of each element there are, and at most how many in all.
+pub(crate) trait Tally {
+    ghost gains: { Self → (ℕ → ℕ) → ℕ → Self → Type 0 };
+
+    // Adds `n` tokens of an element.
+    fn add(&mut self, element: u8, n: u8)
+        ensures { gains self.old (λ e. (if nat_eq element e then n else 0)) n self.new };
+
+    // Adds as many tokens of each element as a row says.
+    fn add_row(&mut self, row: &[u8])
+        requires few { length row.now < 256 }
+        ensures { gains self.old (λ e. (slice_index row.now e)) 65025 self.new }
+    {
+        for (e, n) in row.iter().enumerate() {
+            self.add(e as u8, *n);
+        }
+    }
+
+    ghost laws: { Adds gains };
+}
+
+// Counts in memory, to which tokens on a place are added.
+#[derive(Drop)]
+pub(crate) struct Counts<'c> {
+    pub(crate) place: u8,
+    pub(crate) counts: &'c mut [u32],
+}
+
+impl Tally for Counts<'_> {
+    ghost gains = { CountGains };
+
+    ghost laws = { counts_add };
+
+    fn add(&mut self, element: u8, n: u8) {
+        add(self.counts, self.place, element, n);
+    }
+
+    // on the slice itself: behind `self` it would be read again for each element, which is slower
+    fn add_row(&mut self, row: &[u8]) {
+        add_row(self.counts, self.place, row);
+    }
+}
+
+// Adds `n` tokens of an element to the counts of a place.
+fn add(counts: &mut [u32], place: u8, element: u8, n: u8)
+    ensures { Added counts.old counts.new (64 * place) (λ e. (if nat_eq element e then n else 0)) }
+{
+    let cell = 64 * place as usize + element as usize;
+    // by index: the proof does not see what a count that `get_mut` lends becomes
+    if cell < counts.len() {
+        counts[cell] = counts[cell].saturating_add(u32::from(n));
+    }
+}
+
+// Adds as many tokens of each element as a row says to the counts of a place.
+fn add_row(counts: &mut [u32], place: u8, row: &[u8])
+    requires few { length row.now < 256 }
+    ensures { Added counts.old counts.new (64 * place) (λ e. (slice_index row.now e)) }
+{
+    for (e, n) in row.iter().enumerate() {
+        add(counts, place, e as u8, *n);
+    }
+}
+
+// A value, to which tokens on a place are added, each with its cell's weight.
+#[derive(Drop)]
+pub(crate) struct Weights<'a, D: WeightDomain> {
+    pub(crate) domain: &'a D,
+    pub(crate) codes: &'a [i32],
+    pub(crate) place: u8,
+    pub(crate) sum: D::Value,
+}
+
+impl<D: WeightDomain> Tally for Weights<'_, D> {
+    ghost gains = { WeightGains D.meaning };
+
+    ghost laws = { weights_add D.meaning D.lawful };
+
+    fn add(&mut self, element: u8, n: u8) {
+        let cell = 64 * self.place as usize + element as usize;
+        if let Some(code) = self.codes.get(cell) {
+            let weight = self.domain.weight(*code);
+            self.sum = self.domain.add_copies(&self.sum, u32::from(n), &weight);
+        }
+    }
+
+    // in a local value: behind `self` it would be read again for each element, which is slower
+    fn add_row(&mut self, row: &[u8]) {
+        let zero = self.domain.zero();
+        let mut here = Weights {
+            domain: self.domain,
+            codes: self.codes,
+            place: self.place,
+            sum: mem::replace(&mut self.sum, zero),
+        };
+        for (e, n) in row.iter().enumerate() {
+            here.add(e as u8, *n);
+        }
+        self.sum = here.sum;
+    }
+}
