@@ -1,19 +1,10 @@
 -- The kinds of claims and the moduli that fit them.
-use Rattle.std.proofs.Common.{◌≡◌, ℕ, zero, suc, ◌≤◌, true, false, refl, arith, ne_eqb, le-leb}
+use Rattle.std.proofs.Common.{◌≡◌, ℕ, zero, suc, ◌≤◌, false, refl, arith, ne_eqb}
 use borrow.Author.Tests.{lt-leb}
 use Rattle.domain.specs.Kinds.{Numbered}
 use Rattle.domain.specs.declared.kind.Kind.{Kind}
 use Rattle.domain.specs.declared.kind.Kind.TheVariants.{Equal, NeverRises, NeverFalls, Modulo, Trap, Siphon}
 use Rattle.format.specs.Format.{modulus_fits}
-
--- a kind has a modulus that fits its number
-pub kind_fits : (x : Kind) (n m : ℕ) → Numbered x n m → modulus_fits n m ≡ true
-kind_fits Equal n m h = rw (h.0, h.1)
-kind_fits NeverRises n m h = rw (h.0, h.1)
-kind_fits NeverFalls n m h = rw (h.0, h.1)
-kind_fits (Modulo k) n m h = rw (h.0, h.1) (le-leb 2 k.k k.ok.0)
-kind_fits Trap n m h = rw (h.0, h.1)
-kind_fits Siphon n m h = rw (h.0, h.1)
 
 -- where there is no kind of a number, the modulus does not fit
 pub no_kind : (n m : ℕ) → 1 ≤ n → n ≤ 6 → m ≤ 65535 → ((x : Kind) → Numbered x n m → ⊥) → modulus_fits n m ≡ false

@@ -3,6 +3,8 @@ use Rattle.std.proofs.Common.{◌≡◌, ℕ, zero, suc, ◌+◌, ◌-◌, ◌<�
 use Rattle.std.proofs.lemmas.List.{drop-take}
 use Rattle.std.proofs.lemmas.Bool.Decides.{nat_tests}
 use Rattle.term.specs.Meaning.{Sig, apply, bag_sorted, both, constant, empty, equal, flexible, negate, operation, single, sorted, sum, variable}
+use Rattle.term.specs.declared.signature.Arguments.{Arguments}
+use Rattle.term.specs.declared.signature.Arguments.TheVariants as arguments
 use Rattle.term.specs.Prefix.{Read, ReadBag, applied, bag_at, bag_front, begins, front, missing, term_at, two}
 use Rattle.term.specs.Shape.{Passed, PassedBag}
 use Rattle.format.specs.Format.{front_of}
@@ -60,11 +62,6 @@ at_byte i n f bs h c = record {
   same = λ e. let less : i < c.used + e = omega (arith, c.least) in ap (λ v. f v (take (c.used + e) bs)) (get_or-take (c.used + e) bs i 0 less) ∙ c.same e;
 }
 
--- a choice that the bytes do not decide
-pick : {X : Type 0} {f g : List ℕ → X × List ℕ} {n : ℕ} {bs : List ℕ} (b : Bool) → Cut f n bs → Cut g n bs → Cut (λ l. cond b (f l) (g l)) n bs
-pick true c d = c
-pick false c d = d
-
 same_test : (n j : ℕ) (l : List ℕ) → n < j → ltb n (length (take j l)) ≡ ltb n (length l)
 same_test n j l h = grind (arith, nat_tests, length-take j l)
 
@@ -112,14 +109,16 @@ choose_by {X} {f} {g} k n bs false e c d = record {
 choose : {X : Type 0} {f g : List ℕ → X × List ℕ} (k n : ℕ) (bs : List ℕ) → (suc n ≤ length bs → Cut f (suc n) bs) → Cut g 0 bs → Cut (λ l. cond (begins k n l) (f l) (g l)) 0 bs
 choose k n bs c d = choose_by k n bs (begins k n bs) refl c d
 
-applied_cut : (p : List ℕ → Read) (k n : ℕ) (bs : List ℕ) → 2 ≤ length bs → ((l : List ℕ) → Cut p 0 l) → Cut (λ l. applied p k n (drop 2 l)) 2 bs
-applied_cut p k n bs h c = pick (eqb n 0) (leaf 2 (apply k missing missing) bs h) (pick (eqb n 1) (one_cut 2 p (λ a. apply k a missing) bs h c) (two_cut 2 p (apply k) bs h c))
+applied_cut : (p : List ℕ → Read) (k : ℕ) (a : Arguments) (bs : List ℕ) → 2 ≤ length bs → ((l : List ℕ) → Cut p 0 l) → Cut (λ l. applied p k a (drop 2 l)) 2 bs
+applied_cut p k arguments.None bs h c = leaf 2 (apply k missing missing) bs h
+applied_cut p k (arguments.One a) bs h c = one_cut 2 p (λ x. apply k x missing) bs h c
+applied_cut p k (arguments.Two a b) bs h c = two_cut 2 p (apply k) bs h c
 
 front_cut : (s : Sig) (p : List ℕ → Read) → ((l : List ℕ) → Cut p 0 l) → (bs : List ℕ) → Cut (front s p) 0 bs
 front_cut s p c bs =
     choose 0x20 1 bs (λ h. at_byte 1 2 (λ v l. (variable v, drop 2 l)) bs (omega arith) (leaf 2 (variable (get_or bs 1 0)) bs h))
     (choose 0x21 2 bs (λ h. at_byte 1 3 (λ v l. (constant v (get_or l 2 0), drop 3 l)) bs (omega arith) (at_byte 2 3 (λ w l. (constant (get_or bs 1 0) w, drop 3 l)) bs (omega arith) (leaf 3 (constant (get_or bs 1 0) (get_or bs 2 0)) bs h)))
-    (choose 0x22 1 bs (λ h. at_byte 1 2 (λ v l. applied p v (operation s v).arity (drop 2 l)) bs (omega arith) (applied_cut p (get_or bs 1 0) (operation s (get_or bs 1 0)).arity bs h c))
+    (choose 0x22 1 bs (λ h. at_byte 1 2 (λ v l. applied p v (operation s v).arguments (drop 2 l)) bs (omega arith) (applied_cut p (get_or bs 1 0) (operation s (get_or bs 1 0)).arguments bs h c))
     (choose 0x23 1 bs (λ h. at_byte 1 2 (λ v l. two p (equal v) (drop 2 l)) bs (omega arith) (two_cut 2 p (equal (get_or bs 1 0)) bs h c))
     (choose 0x24 0 bs (λ h. one_cut 1 p negate bs h c)
     (choose 0x25 0 bs (λ h. two_cut 1 p both bs h c) (stop missing bs))))))

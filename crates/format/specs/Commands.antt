@@ -1,9 +1,11 @@
 -- The commands of a net file as plain values, and their numbers.
-use Rattle.std.specs.Prelude.{ℕ, cond, List, ℤ, Some, None, Ok, Err, Option, Result, ◌==◌}
+use Rattle.std.specs.Prelude.{ℕ, cond, ◌==◌, List, [], ◌∷◌, ℤ, length, Ok, Err, Result, slice_index}
 use Rattle.std.specs.Borrow.{Bor}
+use Rattle.domain.specs.declared.kind.Kind.{Kind}
+use Rattle.domain.specs.declared.kind.Kind.TheVariants as kind
 use Rattle.term.specs.declared.fault.FileFault.{FileFault}
-use Rattle.format.specs.declared.command.Code.{Code}
-use Rattle.format.specs.declared.command.Code.TheVariants as code
+use Rattle.term.specs.declared.signature.Arguments.{Arguments}
+use Rattle.term.specs.declared.signature.Arguments.TheVariants as arguments
 use Rattle.format.specs.declared.command.Command.{Command}
 use Rattle.format.specs.declared.command.Command.TheVariants as command
 use Rattle.format.specs.declared.command.Direction.{Direction}
@@ -28,17 +30,58 @@ pub data Read : Type 0 where
   said : Said → List ℕ → Read
   fault : FileFault → Read
 
+-- the number of a kind in a file, and the modulus beside it
+abbrev pub kind_number : Kind → ℕ
+kind_number kind.Equal = 1
+kind_number kind.NeverRises = 2
+kind_number kind.NeverFalls = 3
+kind_number (kind.Modulo m) = 4
+kind_number kind.Trap = 5
+kind_number kind.Siphon = 6
+
+abbrev pub kind_modulus : Kind → ℕ
+kind_modulus kind.Equal = 0
+kind_modulus kind.NeverRises = 0
+kind_modulus kind.NeverFalls = 0
+kind_modulus (kind.Modulo m) = m.k
+kind_modulus kind.Trap = 0
+kind_modulus kind.Siphon = 0
+
+-- how many arguments there are, and their sorts, 0 where there is none
+abbrev pub arity : Arguments → ℕ
+arity arguments.None = 0
+arity (arguments.One a) = 1
+arity (arguments.Two a b) = 2
+
+abbrev pub first : Arguments → ℕ
+first arguments.None = 0
+first (arguments.One a) = a
+first (arguments.Two a b) = a
+
+abbrev pub second : Arguments → ℕ
+second arguments.None = 0
+second (arguments.One a) = 0
+second (arguments.Two a b) = b
+
+-- so many arguments, of the sorts a and b
+abbrev pub arguments_of : ℕ → ℕ → ℕ → Arguments
+arguments_of n a b = cond (n == 0) arguments.None (cond (n == 1) (arguments.One a) (arguments.Two a b))
+
+-- four sort bytes, 0 where there is no variable
+abbrev pub four : List ℕ → List ℕ
+four s = slice_index s 0 ∷ slice_index s 1 ∷ slice_index s 2 ∷ slice_index s 3 ∷ []
+
 -- what a command says
 abbrev pub said_of : Command → Said
 said_of (command.Sort n) = sort n
-said_of (command.Operation n a b r t) = operation n a b r t.now
+said_of (command.Operation a r t) = operation (arity a) (first a) (second a) r t.now
 said_of (command.BagOperation a r t) = bag_operation a r t.now
 said_of (command.Place s) = place s
 said_of (command.Tokens p e n) = tokens p e n
-said_of (command.Transition n s) = transition n s
+said_of (command.Transition s) = transition (length s.now) (four s.now)
 said_of (command.Guard t) = guard t.now
 said_of (command.Arc d p b) = arc d p b.now
-said_of (command.Claim k m) = claim k m
+said_of (command.Claim k) = claim (kind_number k) (kind_modulus k)
 said_of (command.PlaceWeight p c) = place_weight p c
 said_of (command.ElementWeight p e c) = element_weight p e c
 said_of command.End = end
@@ -47,20 +90,3 @@ said_of command.End = end
 abbrev pub seen : Result (Command × Bor (List ℕ)) FileFault → Read
 seen (Ok x) = said (said_of x.0) x.1.now
 seen (Err e) = fault e
-
--- the command that a code byte stands for
-abbrev pub code_of : ℕ → Option Code
-code_of b =
-    cond (b == 0x01) (Some code.Sort)
-    (cond (b == 0x02) (Some code.Operation)
-    (cond (b == 0x03) (Some code.BagOperation)
-    (cond (b == 0x04) (Some code.Place)
-    (cond (b == 0x05) (Some code.Tokens)
-    (cond (b == 0x06) (Some code.Transition)
-    (cond (b == 0x07) (Some code.Guard)
-    (cond (b == 0x08) (Some code.InArc)
-    (cond (b == 0x09) (Some code.OutArc)
-    (cond (b == 0x0A) (Some code.Claim)
-    (cond (b == 0x0B) (Some code.PlaceWeight)
-    (cond (b == 0x0C) (Some code.ElementWeight)
-    (cond (b == 0x0F) (Some code.End) None))))))))))))

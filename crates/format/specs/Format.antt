@@ -2,6 +2,7 @@
 -- `bs` is what is left of the file from the command's code byte on, and `ends` the length of the file.
 use Rattle.std.specs.Prelude.{ℕ, ◌+◌, ◌-◌, ◌*◌, Bool, cond, ◌&&◌, List, [], ◌∷◌, length, take, drop, ℤ, Some, None, Ok, Err, Option, Result, ◌==◌, nat_le, nat_lt, slice_index}
 use Rattle.std.specs.Int.{w32}
+use Rattle.std.specs.List.{position_from}
 use Rattle.std.proofs.Common.{to_z}
 use Rattle.std.specs.Borrow.{Bor}
 use Rattle.domain.specs.Kinds.{kind_weighs}
@@ -12,7 +13,9 @@ use Rattle.term.specs.declared.fault.Fault.TheVariants as fail
 use Rattle.term.specs.declared.fault.FileFault.{FileFault}
 use Rattle.term.specs.declared.fault.Stage.TheVariants as stage
 use Rattle.term.specs.Meaning.{Sig, of}
-use Rattle.format.specs.Commands.{Said, Read, said, fault, sort, operation, bag_operation, place, tokens, transition, guard, arc, claim, place_weight, element_weight, end}
+use Rattle.term.specs.declared.signature.Arguments.{Arguments}
+use Rattle.term.specs.declared.signature.Arguments.TheVariants as arguments
+use Rattle.format.specs.Commands.{Said, Read, arguments_of, said, fault, sort, operation, bag_operation, place, tokens, transition, guard, arc, claim, place_weight, element_weight, end}
 use Rattle.format.specs.declared.command.Code.{Code}
 use Rattle.format.specs.declared.command.Code.TheVariants as code
 use Rattle.format.specs.declared.command.Direction.{Direction}
@@ -53,10 +56,9 @@ sort_at bs ends =
     byte bs ends 1 (λ n. check (nat_le 1 n && nat_le n 64) fail.Range (spot bs ends 1)
     (said (sort n) (drop 2 bs)))
 
--- the index of the first byte that is not below n, counted from i
-abbrev pub first_bad : ℕ → List ℕ → ℕ → Option ℕ
-first_bad n [] i = None
-first_bad n (b ∷ bs) i = cond (nat_lt b n) (first_bad n bs (i + 1)) (Some i)
+-- the index of the first byte that is not below n
+abbrev pub first_bad : ℕ → List ℕ → Option ℕ
+first_bad n bs = position_from (λ b. nat_le n b) 0 bs
 
 -- a table and what follows it, or a fault
 pub data Parts : Type 0 where
@@ -79,16 +81,18 @@ unless_bad (Some i) bs ends r = neither (in_command fail.Range (spot bs ends i))
 
 -- the next n bytes, each of which is to be below size; those that are there are checked also where the file ends too early
 abbrev pub table_at : List ℕ → ℕ → ℕ → ℕ → Parts
-table_at bs ends n size = unless_bad (first_bad size (take n bs) 0) bs ends (counts_at bs ends n)
+table_at bs ends n size = unless_bad (first_bad size (take n bs)) bs ends (counts_at bs ends n)
 
 -- a command with its table
 abbrev pub with_table : Parts → (List ℕ → Said) → Read
 with_table (both t r) k = said (k t) r
 with_table (neither e) k = fault e
 
--- how many combinations of arguments an operation of n arguments of the sorts a and b has
-abbrev pub combinations : List ℕ → ℕ → ℕ → ℕ → ℕ
-combinations sizes n a b = cond (nat_lt 0 n) (size_of sizes a) 1 * cond (nat_lt 1 n) (size_of sizes b) 1
+-- how many combinations of arguments there are
+abbrev pub combinations : List ℕ → Arguments → ℕ
+combinations sizes arguments.None = 1
+combinations sizes (arguments.One a) = size_of sizes a
+combinations sizes (arguments.Two a b) = size_of sizes a * size_of sizes b
 
 -- an operation: number of arguments, two argument sorts, result sort, a result for each combination of arguments
 abbrev pub operation_at : List ℕ → List ℕ → ℕ → Read
@@ -97,7 +101,7 @@ operation_at sizes bs ends =
     (byte bs ends 2 (λ a. check (fitting sizes (nat_lt 0 n) a) fail.Range (spot bs ends 2)
     (byte bs ends 3 (λ b. check (fitting sizes (nat_lt 1 n) b) fail.Range (spot bs ends 3)
     (byte bs ends 4 (λ r. check (nat_lt r (length sizes)) fail.Range (spot bs ends 4)
-    (with_table (table_at (drop 5 bs) ends (combinations sizes n a b) (size_of sizes r)) (operation n a b r)))))))))
+    (with_table (table_at (drop 5 bs) ends (combinations sizes (arguments_of n a b)) (size_of sizes r)) (operation n a b r)))))))))
 
 -- a bag operation: argument sort, result sort, for each argument one count for each element of the result sort
 abbrev pub bag_operation_at : List ℕ → List ℕ → ℕ → Read
@@ -208,18 +212,18 @@ end_at bs ends =
     byte bs ends 0 (λ c.
     cond (nat_lt 1 (length bs)) (fault (record { fault = fail.Trailing; place = spot bs ends 1; stage = stage.File })) (said end (drop 1 bs)))
 
--- the operands of the command of a code; the code byte itself has been read, and a weight is one of the given kind
-abbrev pub parse_at : Context → Kind → Code → List ℕ → ℕ → Read
-parse_at x k code.Sort bs ends = sort_at bs ends
-parse_at x k code.Operation bs ends = operation_at x.signature.sizes.now bs ends
-parse_at x k code.BagOperation bs ends = bag_operation_at x.signature.sizes.now bs ends
-parse_at x k code.Place bs ends = place_at x.signature.sizes.now bs ends
-parse_at x k code.Tokens bs ends = tokens_at x.signature.sizes.now x.places.now bs ends
-parse_at x k code.Transition bs ends = transition_at x.signature.sizes.now bs ends
-parse_at x k code.Guard bs ends = guard_at (of x.signature) x.variables.now bs ends
-parse_at x k code.InArc bs ends = arc_at (of x.signature) x.places.now direction.In x.variables.now bs ends
-parse_at x k code.OutArc bs ends = arc_at (of x.signature) x.places.now direction.Out x.variables.now bs ends
-parse_at x k code.Claim bs ends = claim_at bs ends
-parse_at x k code.PlaceWeight bs ends = place_weight_at x.places.now k bs ends
-parse_at x k code.ElementWeight bs ends = element_weight_at x.signature.sizes.now x.places.now k bs ends
-parse_at x k code.End bs ends = end_at bs ends
+-- the operands of the command of a code; the code byte itself has been read, and a weight is one of the newest claim's kind
+abbrev pub parse_at : Context → Code → List ℕ → Read
+parse_at x code.Sort bs = sort_at bs x.checker.ends
+parse_at x code.Operation bs = operation_at x.checker.signature.sizes.now bs x.checker.ends
+parse_at x code.BagOperation bs = bag_operation_at x.checker.signature.sizes.now bs x.checker.ends
+parse_at x code.Place bs = place_at x.checker.signature.sizes.now bs x.checker.ends
+parse_at x code.Tokens bs = tokens_at x.checker.signature.sizes.now x.places.now bs x.checker.ends
+parse_at x code.Transition bs = transition_at x.checker.signature.sizes.now bs x.checker.ends
+parse_at x code.Guard bs = guard_at (of x.checker.signature) x.checker.variables.now bs x.checker.ends
+parse_at x code.InArc bs = arc_at (of x.checker.signature) x.places.now direction.In x.checker.variables.now bs x.checker.ends
+parse_at x code.OutArc bs = arc_at (of x.checker.signature) x.places.now direction.Out x.checker.variables.now bs x.checker.ends
+parse_at x code.Claim bs = claim_at bs x.checker.ends
+parse_at x code.PlaceWeight bs = place_weight_at x.places.now x.kind bs x.checker.ends
+parse_at x code.ElementWeight bs = element_weight_at x.checker.signature.sizes.now x.places.now x.kind bs x.checker.ends
+parse_at x code.End bs = end_at bs x.checker.ends

@@ -4,21 +4,6 @@ use Rattle.term.specs.Shape.{Passed, PassedBag}
 use Rattle.term.specs.Meaning.{Sig}
 use Rattle.format.specs.Commands.{Said, sort, operation, bag_operation, place, tokens, transition, guard, arc, claim, place_weight, element_weight, end}
 
--- a command without a term or a bag
-abbrev pub Plain : Said → Type 0
-Plain (sort n) = Unit {0}
-Plain (operation n a b r t) = Unit {0}
-Plain (bag_operation a r t) = Unit {0}
-Plain (place s) = Unit {0}
-Plain (tokens p e n) = Unit {0}
-Plain (transition n s) = Unit {0}
-Plain (guard t) = ⊥
-Plain (arc d p t) = ⊥
-Plain (claim k m) = Unit {0}
-Plain (place_weight p c) = Unit {0}
-Plain (element_weight p e c) = Unit {0}
-Plain end = Unit {0}
-
 -- a guard's bytes are one term of sort 0, an arc's are one bag over the sort of its place, and nothing follows in them
 abbrev pub SaidSorted : Sig → List ℕ → List ℕ → Said → Type 0
 SaidSorted s places vars (sort n) = Unit {0}

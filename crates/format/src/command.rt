@@ -1,5 +1,7 @@
-ghost use Rattle.std.specs.Prelude.{◌≡◌};
-ghost use Rattle.format.specs.Commands.{code_of};
+ghost use Rattle.format.specs.Codes.{Coded};
+
+use domain::Kind;
+use term::Arguments;
 
 // The codes of a net file's commands.
 #[derive(Clone, Copy, PartialEq, Eq, Debug)]
@@ -27,15 +29,13 @@ pub enum Direction {
 }
 
 // A command of a net file. Tables, terms and bags are parts of the file.
-#[derive(Clone, Copy)]
+#[derive(Clone, Copy, PartialEq, Eq, Debug)]
 pub enum Command<'f> {
     Sort {
         size: u8,
     },
     Operation {
-        arity: u8,
-        first: u8,
-        second: u8,
+        arguments: Arguments,
         result: u8,
         table: &'f [u8],
     },
@@ -53,8 +53,7 @@ pub enum Command<'f> {
         count: u16,
     },
     Transition {
-        variables: u8,
-        sorts: [u8; 4],
+        sorts: &'f [u8],
     },
     Guard {
         term: &'f [u8],
@@ -65,8 +64,7 @@ pub enum Command<'f> {
         bag: &'f [u8],
     },
     Claim {
-        kind: u8,
-        modulus: u16,
+        kind: Kind,
     },
     PlaceWeight {
         place: u8,
@@ -80,26 +78,32 @@ pub enum Command<'f> {
     End,
 }
 
-impl Code {
+// A byte that stands for no command.
+#[derive(Clone, Copy, PartialEq, Eq, Debug)]
+pub struct NoCode(pub u8);
+
+impl TryFrom<u8> for Code {
+    type Error = NoCode;
+
+    ghost try_from_gives = { Coded };
+
     // The command that a byte stands for.
-    pub fn of(byte: u8) -> Option<Code>
-        ensures { result ≡ code_of byte }
-    {
+    fn try_from(byte: u8) -> Result<Code, NoCode> {
         match byte {
-            0x01 => Some(Code::Sort),
-            0x02 => Some(Code::Operation),
-            0x03 => Some(Code::BagOperation),
-            0x04 => Some(Code::Place),
-            0x05 => Some(Code::Tokens),
-            0x06 => Some(Code::Transition),
-            0x07 => Some(Code::Guard),
-            0x08 => Some(Code::InArc),
-            0x09 => Some(Code::OutArc),
-            0x0A => Some(Code::Claim),
-            0x0B => Some(Code::PlaceWeight),
-            0x0C => Some(Code::ElementWeight),
-            0x0F => Some(Code::End),
-            _ => None,
+            0x01 => Ok(Code::Sort),
+            0x02 => Ok(Code::Operation),
+            0x03 => Ok(Code::BagOperation),
+            0x04 => Ok(Code::Place),
+            0x05 => Ok(Code::Tokens),
+            0x06 => Ok(Code::Transition),
+            0x07 => Ok(Code::Guard),
+            0x08 => Ok(Code::InArc),
+            0x09 => Ok(Code::OutArc),
+            0x0A => Ok(Code::Claim),
+            0x0B => Ok(Code::PlaceWeight),
+            0x0C => Ok(Code::ElementWeight),
+            0x0F => Ok(Code::End),
+            _ => Err(NoCode(byte)),
         }
     }
 }

@@ -5,6 +5,6 @@ pub mod command;
 pub mod operands;
 pub mod section;
 
-pub use command::{Code, Command, Direction};
-pub use operands::{Context, DEPTH, modes, parse, place_size, refused, variable_sizes};
+pub use command::{Code, Command, Direction, NoCode};
+pub use operands::{Context, DEPTH, modes, place_size, refused, variable_sizes};
 pub use section::{Order, Section};

@@ -30,7 +30,8 @@ impl Order {
         }
     }
 
-    // Moves to the section of a command, or answers false and stays.
+    // Moves to the section of a command, or answers false and stays. A bool and no error: the reader makes the fault,
+    // since it alone knows the byte.
     pub fn enter(&mut self, code: Code) -> bool
         ensures opens { after result self.new.section ≡ enters self.old.section code }
         ensures leaves { self.new.section ≡ stays (enters self.old.section code) self.old.section }
