@@ -1,5 +1,3 @@
-pub mod Absent
 pub mod Loaded
 pub mod Sides
-pub mod Spanned
 pub mod Tallied

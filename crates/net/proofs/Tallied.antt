@@ -1,12 +1,9 @@
 -- A marking added to counts, one arc after the other.
-use Rattle.std.proofs.Common.{◌≡◌, ℕ, ◌+◌, ◌-◌, ◌*◌, ◌^◌, ◌<◌, ◌≤◌, min, Bool, true, false, cond, leb, List, length, get_or, refl, ap, ◌∙◌, subst, arith}
+use Rattle.std.proofs.Common.{◌≡◌, ℕ, ◌+◌, ◌-◌, ◌*◌, ◌^◌, ◌<◌, ◌≤◌, min, Bool, true, false, cond, leb, List, length, get_or, refl, ap, ◌∙◌, arith}
 use Rattle.std.proofs.lemmas.Bool.Decides.{nat_tests}
 use Rattle.term.specs.Counts.{Added}
 use Rattle.term.specs.Worth.{Marking, on_place}
 use Rattle.net.specs.Nets.{Tallied}
-
-pub none : (xs : List ℕ) (m : Marking) → ((i : ℕ) → get_or xs i 0 < 2 ^ 32) → ((c : ℕ) → m c ≡ 0) → Tallied xs xs m
-none xs m fits e c h = let z = fits c in let k = e c in grind (arith, z, k)
 
 pub alike : (xs ys : List ℕ) (m k : Marking) → ((c : ℕ) → m c ≡ k c) → Tallied xs ys m → Tallied xs ys k
 alike xs ys m k same t c h = t c h ∙ ap (λ z. min (get_or xs c 0 + z) (2 ^ 32 - 1)) (same c)
@@ -18,12 +15,8 @@ more xs ys zs m p f len t a c h = by (leb (64 * p) c) refl
     by true e =
         let low : 64 * p ≤ c = grind (arith, nat_tests, e) in
         let same : 64 * p + (c - 64 * p) ≡ c = omega arith in
-        let row = a.row (c - 64 * p) (omega arith) in
-        let here : get_or zs c 0 ≡ min (get_or ys c 0 + f (c - 64 * p)) (2 ^ 32 - 1) = subst (λ (k : ℕ). get_or zs k 0 ≡ min (get_or ys k 0 + f (c - 64 * p)) (2 ^ 32 - 1)) same row in
-        let was = t c h in
-        grind (arith, here, was)
+        let here = rw same at (a.row (c - 64 * p) (omega arith)) in
+        grind (arith, here, t c h)
     by false e =
         let high : c < 64 * p = grind (arith, nat_tests, e) in
-        let here = a.below c high in
-        let was = t c h in
-        grind (arith, here, was)
+        grind (arith, a.below c high, t c h)

@@ -1,14 +1,17 @@
 -- Nets and what their transitions take and put.
-use Rattle.std.specs.Prelude.{◌≡◌, ℕ, ◌+◌, ◌-◌, ◌*◌, ◌/◌, ◌%◌, ◌^◌, ◌<◌, min, Bool, true, false, cond, ◌&&◌, List, [], ◌∷◌, length, take, drop, ℤ, vec_items, vec_len, ◌==◌, nat_le, slice_index, slice_index_or}
+use Rattle.std.specs.Prelude.{◌≡◌, ℕ, ◌+◌, ◌-◌, ◌/◌, ◌%◌, ◌^◌, ◌<◌, min, Bool, true, cond, List, [], ◌∷◌, length, map, ℤ, Option, None, option_map, vec_items, vec_len, ◌==◌, slice_get, slice_index, slice_index_or, sum_by}
+use Rattle.std.specs.Option.{option_map_or}
 use Rattle.domain.specs.declared.kind.Kind.{Kind}
+use Rattle.domain.specs.declared.kind.Kind.TheVariants.{Equal}
 use Rattle.format.specs.declared.command.Direction.{Direction}
-use Rattle.format.specs.declared.command.Direction.TheVariants.{In, Out}
-use Rattle.term.specs.Meaning.{Bag, Sig, count, value}
+use Rattle.term.specs.Meaning.{Bag, Sig, bag_said, count, operation_said, value}
 use Rattle.term.specs.Prefix.{bag_at, term_at}
 use Rattle.term.specs.Worth.{Marking, most, on_place}
 use Rattle.net.specs.declared.net.Net.{Net}
 use Rattle.net.specs.declared.parts.Arc.{Arc}
-use Rattle.net.specs.declared.parts.Transition.{Transition}
+use Rattle.net.specs.declared.parts.Claim.{Claim}
+use Rattle.net.specs.declared.parts.Transition as parts
+use Rattle.net.specs.Spans.{towards}
 
 -- the deepest that a term or a bag may be
 abbrev pub depth : ℕ
@@ -16,54 +19,60 @@ depth = 16
 
 -- the sorts, operations and bag operations of a net
 abbrev pub sig : Net → Sig
-sig n = record { sizes = vec_items n.sizes; operations = vec_items n.operations; bags = vec_items n.bags; tables = vec_items n.tables }
+sig n = record { sizes = vec_items n.sizes; operations = map operation_said (vec_items n.operations); bags = map bag_said (vec_items n.bags) }
+
+-- a transition: how many elements each variable has, the bytes of its guard, and the arcs by which it takes
+-- and puts
+pub record Transition : Type 0 where
+  pub sizes : List ℕ
+  pub guard : Option (List ℕ)
+  pub takes : List Arc
+  pub puts : List Arc
 
 abbrev pub no_transition : Transition
-no_transition = record { variables = 0; sorts = []; sizes = []; guarded = false; guard = 0; from = 0; to = 0 }
+no_transition = record { sizes = []; guard = None; takes = []; puts = [] }
+
+-- what a transition in memory says
+abbrev pub said : parts.Transition → Transition
+said t = record { sizes = t.sizes; guard = option_map vec_items t.guard; takes = vec_items t.takes.arcs; puts = vec_items t.puts.arcs }
 
 abbrev pub transition : Net → ℕ → Transition
-transition n t = slice_index_or (vec_items n.transitions) t no_transition
+transition n t = option_map_or said (slice_get (vec_items n.transitions) t) no_transition
 
 -- the guard of a transition is true in a mode; a missing guard always is
 abbrev pub guard_holds : Net → ℕ → List ℕ → Bool
-guard_holds n t m =
-    cond (transition n t).guarded (value (sig n) m (term_at (sig n) depth (drop (transition n t).guard (vec_items n.terms))).0 == 1) true
-
-abbrev pub no_arc : Arc
-no_arc = record { direction = In; place = 0; from = 0; bytes = 0 }
+guard_holds n t m = option_map_or (λ g. value (sig n) m (term_at (sig n) depth g).0 == 1) (transition n t).guard true
 
 -- the bag of an arc
 abbrev pub bag_of : Net → Arc → Bag
-bag_of n a = (bag_at (sig n) depth (take a.bytes (drop a.from (vec_items n.terms)))).0
+bag_of n a = (bag_at (sig n) depth (vec_items a.bag)).0
 
--- the arcs of a transition
-abbrev pub arcs_of : Net → ℕ → List Arc
-arcs_of n t =
-    cond (nat_le (transition n t).from (transition n t).to && nat_le (transition n t).to (length (vec_items n.arcs)))
-    (take ((transition n t).to - (transition n t).from) (drop (transition n t).from (vec_items n.arcs))) []
+-- the arcs of a transition that go one way
+abbrev pub arcs_of : Net → ℕ → Direction → List Arc
+arcs_of n t d = towards d (transition n t).takes (transition n t).puts
 
-abbrev pub goes : Direction → Direction → Bool
-goes In In = true
-goes In Out = false
-goes Out In = false
-goes Out Out = true
+-- what an arc adds in a mode
+abbrev pub part : Net → List ℕ → ℕ → Arc → ℕ
+part n m c a = on_place a.place (count (sig n) m (bag_of n a)) c
 
--- the sum of the bags of the arcs that go one way, in a mode
-abbrev pub side : Net → List ℕ → Direction → List Arc → Marking
-side n m d [] c = 0
-side n m d (a ∷ rest) c = cond (goes a.direction d) (on_place a.place (count (sig n) m (bag_of n a)) c) 0 + side n m d rest c
+-- the sum of the bags of arcs, in a mode
+abbrev pub side : Net → List ℕ → List Arc → Marking
+side n m xs c = sum_by (part n m c) xs
+
+-- at most how many tokens an arc adds
+abbrev pub part_load : Net → Arc → ℕ
+part_load n a = most (bag_of n a)
 
 -- at most how many tokens that is
-abbrev pub load : Net → Direction → List Arc → ℕ
-load n d [] = 0
-load n d (a ∷ rest) = cond (goes a.direction d) (most (bag_of n a)) 0 + load n d rest
+abbrev pub load : Net → List Arc → ℕ
+load n xs = sum_by (part_load n) xs
 
 -- what a transition takes in a mode, and what it puts
 abbrev pub taken : Net → ℕ → List ℕ → Marking
-taken n t m = side n m In (arcs_of n t)
+taken n t m = side n m (transition n t).takes
 
 abbrev pub given : Net → ℕ → List ℕ → Marking
-given n t m = side n m Out (arcs_of n t)
+given n t m = side n m (transition n t).puts
 
 -- the remainder, 0 where there is nothing to divide by
 abbrev pub digit : ℕ → ℕ → ℕ
@@ -86,11 +95,17 @@ pub record Mode (ns m : List ℕ) : Type 0 where
 abbrev pub Tallied : List ℕ → List ℕ → Marking → Type 0
 Tallied before after m = (c : ℕ) → c < length before → slice_index after c ≡ min (slice_index before c + m c) (2 ^ 32 - 1)
 
+abbrev pub no_claim : Claim
+no_claim = record { kind = Equal; codes = [] }
+
+abbrev pub claim_of : Net → ℕ → Claim
+claim_of n k = slice_index_or (vec_items n.claims) k no_claim
+
 -- the codes of a claim, one for each of 1,024 cells
 abbrev pub codes_of : Net → ℕ → List ℤ
-codes_of n k = take 1024 (drop (1024 * k) (vec_items n.codes))
+codes_of n k = (claim_of n k).codes
 
 -- the net has a claim of this number and kind
 pub record IsKind (n : Net) (claim : ℕ) (k : Kind) : Type 0 where
   pub there : claim < vec_len n.claims
-  pub is : k ≡ slice_index_or (vec_items n.claims) claim k
+  pub is : k ≡ (claim_of n claim).kind

@@ -1,7 +1,7 @@
-ghost use Rattle.std.specs.Prelude.{◌<◌, length, OnOk};
+ghost use Rattle.std.specs.Prelude.{◌≡◌, ◌<◌, length, OnOk};
 
 use crate::net::Net;
-use format::{Code, Command, Order, parse, refused};
+use format::{Code, Command, Order, refused};
 use std::alloc::AllocError;
 use term::{Fault, FileFault, Stage};
 
@@ -9,7 +9,7 @@ use term::{Fault, FileFault, Stage};
 pub const LONGEST: usize = 65536;
 
 // Why a net was not read: a fault in its file, or want of memory.
-#[derive(Clone, Copy, Debug)]
+#[derive(Clone, Copy, PartialEq, Eq, Debug)]
 pub enum ReadError {
     File(FileFault),
     Memory,
@@ -36,32 +36,31 @@ pub struct Reader<'f> {
 }
 
 impl<'f> Reader<'f> {
+    // The code of the next command, which opens its section and must have room in the net.
+    fn code(&mut self, net: &Net) -> Result<Code, FileFault>
+        ensures { self.new.rest.now ≡ self.old.rest.now }
+    {
+        let at = self.ends.saturating_sub(self.rest.len());
+        let byte = self.rest.first().ok_or(refused(Fault::Ends, self.ends))?;
+        let code = Code::try_from(*byte).map_err(|_| refused(Fault::NoCommand, at))?;
+        if !self.order.enter(code) {
+            return Err(refused(Fault::Order, at));
+        }
+        if net.is_full(code) {
+            return Err(refused(Fault::Limit, at));
+        }
+        Ok(code)
+    }
+
     // Reads the next command and carries it out on the net. False at the end.
     fn step(&mut self, net: &mut Net) -> Result<bool, ReadError>
         ensures { OnOk result (length self.new.rest.now < length self.old.rest.now) }
     {
-        let bytes = self.rest;
-        let ends = self.ends;
-        let at = ends.saturating_sub(bytes.len());
-        let [byte, ..] = bytes else {
-            return Err(ReadError::File(refused(Fault::Ends, ends)));
-        };
-        let Some(code) = Code::of(*byte) else {
-            return Err(ReadError::File(refused(Fault::NoCommand, at)));
-        };
-        if !self.order.enter(code) {
-            return Err(ReadError::File(refused(Fault::Order, at)));
-        }
-        if net.is_full(code) {
-            return Err(ReadError::File(refused(Fault::Limit, at)));
-        }
-        let (command, rest) = parse(net.context(), net.last_kind(), code, bytes, ends)?;
+        let code = self.code(net)?;
+        let (command, rest) = net.context(self.ends).parse(code, self.rest)?;
         net.carry_out(command)?;
         self.rest = rest;
-        match command {
-            Command::End => Ok(false),
-            _ => Ok(true),
-        }
+        Ok(!matches!(command, Command::End))
     }
 }
 
@@ -79,21 +78,12 @@ fn fill(net: &mut Net, file: &[u8]) -> Result<(), ReadError> {
         rest: file,
         ends: file.len(),
     };
-    'commands: loop {
-        if !reader.step(net)? {
-            return Ok(());
-        }
-    }
+    while reader.step(net)? {}
+    Ok(())
 }
 
 // Fills the caller's net from a file. A fault leaves the empty net there.
 pub fn read(net: &mut Net, file: &[u8]) -> Result<(), ReadError> {
     net.clear();
-    match fill(net, file) {
-        Ok(()) => Ok(()),
-        Err(e) => {
-            net.clear();
-            Err(e)
-        }
-    }
+    fill(net, file).inspect_err(|_| net.clear())
 }

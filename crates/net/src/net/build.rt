@@ -1,33 +1,33 @@
 // A net as it is read, command by command.
-ghost use Rattle.std.specs.Prelude.{◌≡◌};
+ghost use Rattle.std.specs.Prelude.{◌≡◌, ◌+◌, ◌*◌};
 ghost use Rattle.term.specs.Meaning.{of};
 ghost use Rattle.net.specs.Nets.{sig};
 
 use super::{CELLS, Net};
-use crate::parts::{Arc, Transition};
-use crate::reader::LONGEST;
+use crate::parts::{Arc, Claim, Side, Transition};
 use domain::Kind;
 use format::{Code, Command, Context, Direction, place_size, variable_sizes};
 use std::alloc::{AllocError, Global};
-use term::{BagOperation, Operation, Signature};
+use term::{Arguments, BagOperation, Checker, Operation, Signature};
+
+// The number of the cell of a place and an element.
+fn cell(place: u8, element: u8) -> usize
+    ensures { result ≡ 64 * place + element }
+{
+    64 * place as usize + element as usize
+}
 
 impl Net {
     // The empty net: sort 0 alone, which has two elements.
     pub fn new(heap: Global) -> Result<Net, AllocError> {
-        let mut sizes = Vec::new(heap);
-        sizes.push(2)?;
         Ok(Net {
-            sizes,
+            sizes: vec![in heap; 2]?,
             operations: Vec::new(heap),
             bags: Vec::new(heap),
-            tables: Vec::new(heap),
             places: Vec::new(heap),
             initial: [0; CELLS],
             transitions: Vec::new(heap),
-            arcs: Vec::new(heap),
-            terms: Vec::new(heap),
             claims: Vec::new(heap),
-            codes: Vec::new(heap),
         })
     }
 
@@ -36,14 +36,10 @@ impl Net {
         self.sizes.truncate(1);
         self.operations.clear();
         self.bags.clear();
-        self.tables.clear();
         self.places.clear();
         self.initial = [0; CELLS];
         self.transitions.clear();
-        self.arcs.clear();
-        self.terms.clear();
         self.claims.clear();
-        self.codes.clear();
     }
 
     // Whether one more command of this code would pass a limit.
@@ -54,11 +50,21 @@ impl Net {
             Code::BagOperation => self.bags.len() >= 8,
             Code::Place => self.places.len() >= 16,
             Code::Transition => self.transitions.len() >= 32,
-            Code::InArc | Code::OutArc => self.arcs.len() >= 128,
+            Code::InArc | Code::OutArc => self.arc_count() >= 128,
             Code::Claim => self.claims.len() >= 16,
             Code::Tokens | Code::Guard | Code::PlaceWeight | Code::ElementWeight | Code::End =>
                 false,
         }
+    }
+
+    // How many arcs there are.
+    fn arc_count(&self) -> usize {
+        self.transitions.iter().fold(
+            0,
+            |n: usize, t| n
+                .saturating_add(t.takes.arcs.len())
+                .saturating_add(t.puts.arcs.len()),
+        )
     }
 
     pub(crate) fn signature(&self) -> Signature<'_>
@@ -68,144 +74,128 @@ impl Net {
             sizes: self.sizes.as_slice(),
             operations: self.operations.as_slice(),
             bags: self.bags.as_slice(),
-            tables: self.tables.as_slice(),
         }
     }
 
-    // What the operands of the next command refer to.
-    pub(crate) fn context(&self) -> Context<'_> {
+    // What the operands of the next command are read by, in a file of `ends` bytes.
+    pub(crate) fn context(&self, ends: usize) -> Context<'_> {
         Context {
-            signature: self.signature(),
+            checker: Checker {
+                signature: self.signature(),
+                variables: self.variables(),
+                ends,
+            },
             places: self.places.as_slice(),
-            variables: self.variables(),
+            kind: self.last_kind(),
         }
     }
 
     // The sorts of the newest transition's variables.
     fn variables(&self) -> &[u8] {
-        match self.transitions.last() {
-            Some(t) => {
-                let n = t.variables.min(4);
-                &t.sorts[0..n as usize]
-            }
-            None => &[],
-        }
+        self.transitions.last().map_or(&[], |t| t.sorts.as_slice())
     }
 
     // The kind of the newest claim.
-    pub(crate) fn last_kind(&self) -> Kind {
-        match self.claims.last() {
-            Some(k) => *k,
-            None => Kind::Equal,
-        }
+    fn last_kind(&self) -> Kind {
+        self.claims.last().map_or(Kind::Equal, |c| c.kind)
     }
 
     fn add_operation(
         &mut self,
-        arity: u8,
-        first: u8,
-        second: u8,
+        arguments: Arguments,
         res: u8,
         table: &[u8],
     ) -> Result<(), AllocError> {
-        let from = (self.tables.len() & 0xffff_ffff) as u32;
-        self.tables.extend_from_slice(table)?;
+        let heap = *self.operations.allocator();
         self.operations.push(Operation {
-            arity,
-            first,
-            second,
+            arguments,
             result: res,
-            table: from,
+            table: table.to_vec(heap)?,
         })?;
         Ok(())
     }
 
     fn add_bag_operation(&mut self, argument: u8, res: u8, table: &[u8]) -> Result<(), AllocError> {
-        let from = (self.tables.len() & 0xffff_ffff) as u32;
-        self.tables.extend_from_slice(table)?;
+        let heap = *self.bags.allocator();
         self.bags.push(BagOperation {
             argument,
             result: res,
-            table: from,
+            table: table.to_vec(heap)?,
         })?;
         Ok(())
     }
 
-    fn add_transition(&mut self, variables: u8, sorts: [u8; 4]) -> Result<(), AllocError> {
-        let sizes = variable_sizes(self.sizes.as_slice(), variables, sorts);
-        let arcs = self.arcs.len();
+    fn add_transition(&mut self, sorts: &[u8]) -> Result<(), AllocError> {
+        let heap = *self.transitions.allocator();
         self.transitions.push(Transition {
-            variables,
-            sorts,
-            sizes,
-            guarded: false,
-            guard: 0,
-            from: arcs,
-            to: arcs,
+            sorts: sorts.to_vec(heap)?,
+            sizes: variable_sizes(self.sizes.as_slice(), sorts),
+            guard: None,
+            takes: Side {
+                arcs: Vec::new(heap),
+            },
+            puts: Side {
+                arcs: Vec::new(heap),
+            },
         })?;
         Ok(())
     }
 
+    // Gives the newest transition a guard.
     fn add_guard(&mut self, term: &[u8]) -> Result<(), AllocError> {
-        let from = self.terms.len();
-        if term.len() > LONGEST - from {
-            return Err(AllocError);
-        }
-        self.terms.extend_from_slice(term)?;
+        let term = term.to_vec(*self.transitions.allocator())?;
         if let Some(t) = self.transitions.last_mut() {
-            t.guarded = true;
-            t.guard = from;
+            t.guard = Some(term);
         }
         Ok(())
     }
 
+    // Gives the newest transition an arc.
     fn add_arc(&mut self, direction: Direction, place: u8, bag: &[u8]) -> Result<(), AllocError> {
-        let from = self.terms.len();
-        if bag.len() > LONGEST - from {
-            return Err(AllocError);
-        }
-        self.terms.extend_from_slice(bag)?;
-        self.arcs.push(Arc {
-            direction,
+        let arc = Arc {
             place,
-            from,
-            bytes: bag.len(),
-        })?;
-        let arcs = self.arcs.len();
-        if let Some(t) = self.transitions.last_mut() {
-            t.to = arcs;
+            bag: bag.to_vec(*self.transitions.allocator())?,
+        };
+        let Some(t) = self.transitions.last_mut() else {
+            return Ok(());
+        };
+        match direction {
+            Direction::In => t.takes.add(arc),
+            Direction::Out => t.puts.add(arc),
         }
-        Ok(())
     }
 
-    fn add_claim(&mut self, kind: u8, modulus: u16) -> Result<(), AllocError> {
-        if let Some(kind) = Kind::from_number(kind, modulus) {
-            self.codes.extend_from_slice(&[0; CELLS])?;
-            self.claims.push(kind)?;
-        }
+    fn add_claim(&mut self, kind: Kind) -> Result<(), AllocError> {
+        self.claims.push(Claim {
+            kind,
+            codes: [0; CELLS],
+        })?;
         Ok(())
     }
 
     // Gives one cell of the newest claim a code.
     fn set_code(&mut self, place: u8, element: u8, code: i32) {
-        let cell = 64 * place as usize + element as usize;
-        let from = self.codes.len().saturating_sub(CELLS);
-        if cell < self.codes.len() - from {
-            self.codes[from + cell] = code;
+        if let Some(claim) = self.claims.last_mut()
+            && let Some(old) = claim.codes.get_mut(cell(place, element))
+        {
+            *old = code;
         }
     }
 
     // Gives all elements of a place a code in the newest claim.
     fn set_codes(&mut self, place: u8, code: i32) {
-        for element in 0..place_size(self.sizes.as_slice(), self.places.as_slice(), place) {
-            self.set_code(place, element, code);
+        let from = cell(place, 0);
+        let size = place_size(self.sizes.as_slice(), self.places.as_slice(), place) as usize;
+        if let Some(claim) = self.claims.last_mut()
+            && let Some(old) = claim.codes.get_mut(from..from + size)
+        {
+            old.fill(code);
         }
     }
 
     fn set_tokens(&mut self, place: u8, element: u8, count: u16) {
-        let cell = 64 * place as usize + element as usize;
-        if cell < CELLS {
-            self.initial[cell] = count;
+        if let Some(old) = self.initial.get_mut(cell(place, element)) {
+            *old = count;
         }
     }
 
@@ -214,12 +204,10 @@ impl Net {
         match command {
             Command::Sort { size } => self.sizes.push(size)?,
             Command::Operation {
-                arity,
-                first,
-                second,
+                arguments,
                 result,
                 table,
-            } => { self.add_operation(arity, first, second, result, table)? }
+            } => { self.add_operation(arguments, result, table)? }
             Command::BagOperation {
                 argument,
                 result,
@@ -231,14 +219,14 @@ impl Net {
                 element,
                 count,
             } => self.set_tokens(place, element, count),
-            Command::Transition { variables, sorts } => self.add_transition(variables, sorts)?,
+            Command::Transition { sorts } => self.add_transition(sorts)?,
             Command::Guard { term } => self.add_guard(term)?,
             Command::Arc {
                 direction,
                 place,
                 bag,
             } => self.add_arc(direction, place, bag)?,
-            Command::Claim { kind, modulus } => self.add_claim(kind, modulus)?,
+            Command::Claim { kind } => self.add_claim(kind)?,
             Command::PlaceWeight { place, code } => self.set_codes(place, code),
             Command::ElementWeight {
                 place,

@@ -1,5 +1,5 @@
 use Rattle.std.proofs.Common.{length}
 use Rattle.net.proofs.reader.fill.Given as goal
 
-abbrev pub decreases-commands : goal.decreases-commands
-decreases-commands l = length l.reader.rest.now
+abbrev pub decreases-loop : goal.decreases-loop
+decreases-loop l = length l.reader.rest.now

@@ -7,4 +7,4 @@ use Rattle.net.proofs.net.Net.weigh.Given as goal
 abbrev pub invariant-loop-arc : goal.invariant-loop-arc
 invariant-loop-arc g l =
     let d = g.D.WeightDomain.meaning l.d in
-    Weighs d l.codes d.nil (side l.self l.mode l.direction (take l.arc-index l.arc-items)) (load l.self l.direction (take l.arc-index l.arc-items)) l.sum
+    Weighs d l.codes d.nil (side l.self l.fn.f.mode (take l.arc-index l.arc-items)) (load l.self (take l.arc-index l.arc-items)) l.sum
