@@ -1,4 +1,6 @@
-pub mod Chosen
 pub mod Turns
 pub mod Orders
 pub mod Markings
+pub mod All
+pub mod Refusals
+pub mod Sheets

@@ -1,15 +1,13 @@
 -- What a verdict says of every marking and of every run.
-use Rattle.std.proofs.Common.{◌≡◌, ℕ, ◌+◌, ◌-◌, ◌<◌, ◌≤◌, List, [], ◌∷◌, length, ℤ, vec_len, sym, refl, ap, ◌∙◌, subst, true≢false, arith}
+use Rattle.std.proofs.Common.{◌≡◌, ℕ, ◌+◌, ◌-◌, ◌<◌, ◌≤◌, List, [], ◌∷◌, length, ℤ, Ok, Err, vec_len, sym, refl, ap, ◌∙◌, subst, true≢false, arith}
 use Rattle.domain.specs.Meaning.{Laws, Meaning}
 use Rattle.term.specs.Worth.{Marking, value_of}
 use Rattle.term.proofs.Sums.{value_add, value_holds, value_same}
 use Rattle.net.specs.declared.net.Net.{Net}
 use Rattle.net.specs.Nets.{Mode, given, guard_holds, taken, transition}
 use Rattle.net.specs.Runs.{Fires, Run}
-use Rattle.judge.specs.Judged.{First, Judged, Kept, KeptAll, after, before, mode, modes_of}
+use Rattle.judge.specs.Judged.{First, Judged, Kept, KeptAll, Verdict, after, before, mode, modes_of}
 use Rattle.judge.specs.Theorem.{BreaksAt, Exactly, Keeps, Right}
-use Rattle.judge.specs.declared.verdict.Verdict.{Verdict}
-use Rattle.judge.specs.declared.verdict.Verdict.TheVariants.{Accepted, Broken}
 use Rattle.judge.proofs.Orders.{is_mode, numbered}
 
 module _ {V : Type 0} {d : Meaning V} (l : Laws d) (codes : List ℤ) (cells : length codes ≡ 1024) (n : Net) where
@@ -63,13 +61,13 @@ module _ {V : Type 0} {d : Meaning V} (l : Laws d) (codes : List ℤ) (cells : l
       )
 
   pub right : (r : Verdict V) → Judged d codes n r → Right d codes n r
-  right (Accepted c) j = λ b. b.3.2 (fires_kept b.0 b.1 b.2 b.3.0 j.1 b.3.1)
-  right (Broken t m v w) j = broken_at t m v w j.0 j.2
+  right (Ok c) j = λ b. b.3.2 (fires_kept b.0 b.1 b.2 b.3.0 j.1 b.3.1)
+  right (Err x) j = broken_at x.firing.transition x.firing.mode x.before x.after j.0 j.2
 
   pub exactly : (r : Verdict V) → Right d codes n r → Exactly d codes n r
-  exactly (Accepted c) h = (λ e. absurd (true≢false (sym e)), λ b. absurd (h b))
-  exactly (Broken t m v w) h = (λ _. (t, m, taken n t m, h), λ _. refl)
+  exactly (Ok c) h = (λ e. absurd (true≢false (sym e)), λ b. absurd (h b))
+  exactly (Err x) h = (λ _. (x.firing.transition, x.firing.mode, taken n x.firing.transition x.firing.mode, h), λ _. refl)
 
   pub keeps : (r : Verdict V) → Judged d codes n r → Keeps d codes n r
-  keeps (Accepted c) j = λ a b fs r. run_kept a b fs j.1 r
-  keeps (Broken t m v w) j = tt
+  keeps (Ok c) j = λ a b fs r. run_kept a b fs j.1 r
+  keeps (Err x) j = tt

@@ -25,28 +25,25 @@ module _ (p q r s a b c d : ℕ) (ha : a < p) (hb : b < q) (hc : c < r) (hd : d 
   below : i < p * q * r * s
   below = digits_lt (digits_lt (digits_lt ha hb) hc) hd
 
-regroup : (p q r s : ℕ) → p * q * r * s ≡ (p * q) * (r * s)
-regroup p q r s = mul_assoc (p * q) r s
-
 pub numbered : (ns m : List ℕ) → length m ≡ 4 → Mode ns m → (i : ℕ) × (i < mode_count ns) × (m ≡ mode_of ns i)
-numbered ns [] l h = let z : ⊥ = omega arith in absurd z
-numbered ns (a ∷ []) l h = let z : ⊥ = omega arith in absurd z
-numbered ns (a ∷ b ∷ []) l h = let z : ⊥ = omega arith in absurd z
-numbered ns (a ∷ b ∷ c ∷ []) l h = let z : ⊥ = omega arith in absurd z
+numbered ns [] l h = absurd (omega arith)
+numbered ns (a ∷ []) l h = absurd (omega arith)
+numbered ns (a ∷ b ∷ []) l h = absurd (omega arith)
+numbered ns (a ∷ b ∷ c ∷ []) l h = absurd (omega arith)
 numbered ns (a ∷ b ∷ c ∷ d ∷ []) l h =
     let p = get_or ns 0 0 in
     let q = get_or ns 1 0 in
     let r = get_or ns 2 0 in
     let s = get_or ns 3 0 in (
       i p q r s a b c d h.first h.second h.third h.fourth,
-      subst (λ (x : ℕ). i p q r s a b c d h.first h.second h.third h.fourth < x) (regroup p q r s) (below p q r s a b c d h.first h.second h.third h.fourth),
+      subst (λ (x : ℕ). i p q r s a b c d h.first h.second h.third h.fourth < x) (mul_assoc (p * q) r s) (below p q r s a b c d h.first h.second h.third h.fourth),
       counted p q r s a b c d h.first h.second h.third h.fourth,
     )
-numbered ns (a ∷ b ∷ c ∷ d ∷ e ∷ es) l h = let z : ⊥ = omega arith in absurd z
+numbered ns (a ∷ b ∷ c ∷ d ∷ e ∷ es) l h = absurd (omega arith)
 
 some : (p q i : ℕ) → i < p * q → (0 < p) × (0 < q)
-some zero q i h = let z : ⊥ = omega arith in absurd z
-some (suc p) zero i h = let z : ⊥ = omega arith in absurd z
+some zero q i h = absurd (omega arith)
+some (suc p) zero i h = absurd (omega arith)
 some (suc p) (suc q) i h = (omega arith, omega arith)
 
 pub is_mode : (ns : List ℕ) (i : ℕ) → i < mode_count ns → Mode ns (mode_of ns i)

@@ -1,14 +1,14 @@
 -- What a caller's memory holds after a call of the judge, and why a call is refused.
 use Rattle.std.specs.Prelude.{◌≡◌, ℕ, ◌<◌, ◌≤◌, true, List, length, replicate, ℤ, pos, Ok, Err, vec_len, Result, slice_index_or}
+use Rattle.std.specs.Borrow.{MutBor}
 use Rattle.domain.specs.Meaning.{Meaning}
 use Rattle.term.specs.declared.fault.Fault.{Fault}
 use Rattle.term.specs.declared.fault.Fault.TheVariants as fault
 use Rattle.net.specs.declared.net.Net.{Net}
 use Rattle.net.specs.Nets.{Tallied, codes_of, given, taken}
-use Rattle.judge.specs.Judged.{Judged}
+use Rattle.judge.specs.Judged.{Judged, Verdict}
 use Rattle.judge.specs.Theorem.{Exactly, Keeps, Right}
-use Rattle.judge.specs.declared.verdict.Verdict.{Verdict}
-use Rattle.judge.specs.declared.verdict.Verdict.TheVariants.{Accepted, Broken}
+use Rattle.judge.specs.declared.workspace.Workspace.{Workspace}
 
 -- memory for 1,024 codes and twice 1,024 counts
 pub record Measured (codes : List ℤ) (before after : List ℕ) : Type 0 where
@@ -21,8 +21,8 @@ none = replicate 1024 0
 
 -- the counts after judging: t− and t+ of the mode named if broken, else all 0
 abbrev pub Left : {V : Type 0} → Net → Verdict V → List ℕ → List ℕ → Type 0
-Left n (Accepted c) b a = (b ≡ none) × (a ≡ none)
-Left n (Broken t m v w) b a = Tallied none b (taken n t m) × Tallied none a (given n t m)
+Left n (Ok c) b a = (b ≡ none) × (a ≡ none)
+Left n (Err x) b a = Tallied none b (taken n x.firing.transition x.firing.mode) × Tallied none a (given n x.firing.transition x.firing.mode)
 
 -- every code is a weight
 abbrev pub AllWeigh : {V : Type 0} → Meaning V → List ℤ → Type 0
@@ -42,8 +42,30 @@ pub record Memory : Type 0 where
   pub before : List ℕ
   pub after : List ℕ
 
+-- what a workspace holds
+abbrev pub lent : Workspace → Memory
+lent w = record { codes = w.codes.now; before = w.before.now; after = w.after.now }
+
 abbrev pub Fits : Memory → Type 0
 Fits m = Measured m.codes m.before m.after
+
+-- the same loan as before, of the same length: its owner gets back what was written there
+pub record SameLoan {A : Type 0} (v w : MutBor (List A)) : Type 0 where
+  pub named : w.ghost_name ≡ v.ghost_name
+  pub long : length w.now ≡ length v.now
+
+-- a call leaves a workspace its three loans
+pub record SameLoans (v w : Workspace) : Type 0 where
+  pub codes : SameLoan v.codes w.codes
+  pub before : SameLoan v.before w.before
+  pub after : SameLoan v.after w.after
+
+-- whether a call can begin: memory that fits, and a claim that the net has
+abbrev pub Begun : Net → ℕ → Memory → Result (Unit {0}) Fault → Type 0
+Begun n claim m (Ok u) = Fits m × (claim < vec_len n.claims)
+Begun n claim m (Err fault.Memory) = Fits m → ⊥
+Begun n claim m (Err fault.NoClaim) = Fits m × (vec_len n.claims ≤ claim)
+Begun n claim m (Err e) = ⊥
 
 -- what a call of judge answers, from the memory m to the memory k
 abbrev pub Called : {V : Type 0} → Meaning V → Net → ℕ → Memory → Memory → Result (Verdict V) Fault → Type 0
@@ -53,24 +75,9 @@ Called d n claim m k (Err fault.Memory) = (Fits m → ⊥) × (k ≡ m)
 Called d n claim m k (Err fault.NoClaim) = Fits m × (vec_len n.claims ≤ claim) × (k ≡ m)
 Called d n claim m k (Err fault.NoWeight) =
     Fits m × (claim < vec_len n.claims) × (k.codes ≡ codes_of n claim) × (AllWeigh d k.codes → ⊥) × (k.before ≡ m.before) × (k.after ≡ m.after)
-Called d n claim m k (Err fault.TooLong) = ⊥
-Called d n claim m k (Err fault.Ends) = ⊥
-Called d n claim m k (Err fault.NoCommand) = ⊥
-Called d n claim m k (Err fault.Order) = ⊥
-Called d n claim m k (Err fault.Limit) = ⊥
-Called d n claim m k (Err fault.Range) = ⊥
-Called d n claim m k (Err fault.Deep) = ⊥
-Called d n claim m k (Err fault.Sort) = ⊥
-Called d n claim m k (Err fault.Modes) = ⊥
-Called d n claim m k (Err fault.Trailing) = ⊥
-Called d n claim m k (Err fault.NoCell) = ⊥
-Called d n claim m k (Err fault.NotPlain) = ⊥
-Called d n claim m k (Err fault.NotAccepted) = ⊥
-Called d n claim m k (Err fault.NoTransition) = ⊥
-Called d n claim m k (Err fault.Mode) = ⊥
-Called d n claim m k (Err fault.Guard) = ⊥
-Called d n claim m k (Err (fault.Lacks c)) = ⊥
-Called d n claim m k (Err (fault.Full c)) = ⊥
-Called d n claim m k (Err fault.TrailFull) = ⊥
-Called d n claim m k (Err fault.TrailEmpty) = ⊥
-Called d n claim m k (Err fault.RecordingFull) = ⊥
+Called d n claim m k (Err e) = ⊥
+
+-- the codes of a claim are in memory, each a weight
+abbrev pub Loaded : {V : Type 0} → Meaning V → Net → ℕ → Memory → Memory → Result (Unit {0}) Fault → Type 0
+Loaded d n claim m k (Ok u) = (k.codes ≡ codes_of n claim) × AllWeigh d k.codes × (k.before ≡ m.before) × (k.after ≡ m.after)
+Loaded d n claim m k (Err e) = Called d n claim m k (Err e)

@@ -1,12 +1,15 @@
 -- What judging answers: the verdict, the first mode that breaks a claim, and the number of modes.
-use Rattle.std.specs.Prelude.{◌≡◌, ℕ, zero, suc, ◌+◌, ◌-◌, ◌^◌, ◌<◌, min, true, cond, List, ℤ, vec_len}
+use Rattle.std.specs.Prelude.{◌≡◌, ℕ, zero, suc, ◌+◌, ◌-◌, ◌^◌, ◌<◌, min, true, cond, List, ℤ, Ok, Err, Result, vec_len}
 use Rattle.domain.specs.Meaning.{Meaning}
 use Rattle.format.specs.Format.{mode_count}
 use Rattle.term.specs.Worth.{value_of}
 use Rattle.net.specs.declared.net.Net.{Net}
 use Rattle.net.specs.Nets.{given, guard_holds, mode_of, taken, transition}
-use Rattle.judge.specs.declared.verdict.Verdict.{Verdict}
-use Rattle.judge.specs.declared.verdict.Verdict.TheVariants.{Accepted, Broken}
+use Rattle.judge.specs.declared.verdict.Breach.{Breach}
+
+-- the number of modes with a true guard, or how the claim breaks
+abbrev pub Verdict : Type 0 → Type 0
+Verdict V = Result ℕ (Breach V)
 
 -- how many modes a transition has, and the mode of a number, the first variable slowest
 abbrev pub modes_of : Net → ℕ → ℕ
@@ -58,10 +61,10 @@ module _ {V : Type 0} (d : Meaning V) (codes : List ℤ) (n : Net) where
 
   -- the answer for the transition k
   abbrev pub JudgedModes : ℕ → Verdict V → Type 0
-  JudgedModes k (Accepted c) = (c ≡ held (firing n k (modes_of n k))) × Kept k (modes_of n k)
-  JudgedModes k (Broken t m v w) = (t ≡ k) × First k m v w
+  JudgedModes k (Ok c) = (c ≡ held (firing n k (modes_of n k))) × Kept k (modes_of n k)
+  JudgedModes k (Err x) = (x.firing.transition ≡ k) × First k x.firing.mode x.before x.after
 
   -- the answer for all transitions
   abbrev pub Judged : Verdict V → Type 0
-  Judged (Accepted c) = (c ≡ held (number n (vec_len n.transitions))) × KeptAll (vec_len n.transitions)
-  Judged (Broken t m v w) = (t < vec_len n.transitions) × KeptAll t × First t m v w
+  Judged (Ok c) = (c ≡ held (number n (vec_len n.transitions))) × KeptAll (vec_len n.transitions)
+  Judged (Err x) = (x.firing.transition < vec_len n.transitions) × KeptAll x.firing.transition × First x.firing.transition x.firing.mode x.before x.after

@@ -6,16 +6,17 @@ use Rattle.domain.specs.declared.kind.Kind.{Kind}
 use Rattle.domain.specs.declared.kind.Kind.TheVariants as kind
 use Rattle.term.specs.declared.fault.Fault.{Fault}
 use Rattle.net.specs.declared.net.Net.{Net}
+use Rattle.net.specs.declared.firing.Firing.{Firing}
 use Rattle.judge.specs.Calls.{Called, Memory}
-use Rattle.judge.specs.declared.verdict.Outcome.{Outcome}
-use Rattle.judge.specs.declared.verdict.Outcome.TheVariants as outcome
-use Rattle.judge.specs.declared.verdict.Verdict.{Verdict}
-use Rattle.judge.specs.declared.verdict.Verdict.TheVariants as verdict
+use Rattle.judge.specs.Judged.{Verdict}
+
+abbrev pub Outcome : Type 0
+Outcome = Result ℕ Firing
 
 -- a verdict without its values
 abbrev pub outcome_of : {V : Type 0} → Verdict V → Outcome
-outcome_of (verdict.Accepted c) = outcome.Accepted c
-outcome_of (verdict.Broken t m v w) = outcome.Broken t m
+outcome_of (Ok c) = Ok c
+outcome_of (Err x) = Err x.firing
 
 abbrev pub shown : {V : Type 0} → Result (Verdict V) Fault → Result Outcome Fault
 shown (Ok r) = Ok (outcome_of r)

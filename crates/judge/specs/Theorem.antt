@@ -1,12 +1,11 @@
 -- What a verdict says of every marking, of any size, and of every run.
-use Rattle.std.specs.Prelude.{◌≡◌, ℕ, Bool, true, false, List, ℤ}
+use Rattle.std.specs.Prelude.{◌≡◌, ℕ, Bool, true, false, List, ℤ, Ok, Err}
 use Rattle.domain.specs.Meaning.{Meaning}
 use Rattle.term.specs.Worth.{Marking, value_of}
 use Rattle.net.specs.declared.net.Net.{Net}
 use Rattle.net.specs.Nets.{taken}
 use Rattle.net.specs.Runs.{Fires, Run}
-use Rattle.judge.specs.declared.verdict.Verdict.{Verdict}
-use Rattle.judge.specs.declared.verdict.Verdict.TheVariants.{Accepted, Broken}
+use Rattle.judge.specs.Judged.{Verdict}
 
 module _ {V : Type 0} (d : Meaning V) (codes : List ℤ) (n : Net) where
   -- transition t, fired in the mode m from the marking a, gives values that are not related
@@ -19,12 +18,12 @@ module _ {V : Type 0} (d : Meaning V) (codes : List ℤ) (n : Net) where
 
   -- an accepted claim is never broken; the mode named, fired from what it takes, breaks it
   abbrev pub Right : Verdict V → Type 0
-  Right (Accepted c) = Breaks → ⊥
-  Right (Broken t m v w) = BreaksAt t m (taken n t m)
+  Right (Ok c) = Breaks → ⊥
+  Right (Err x) = BreaksAt x.firing.transition x.firing.mode (taken n x.firing.transition x.firing.mode)
 
   abbrev pub is_broken : Verdict V → Bool
-  is_broken (Accepted c) = false
-  is_broken (Broken t m v w) = true
+  is_broken (Ok c) = false
+  is_broken (Err x) = true
 
   -- broken exactly when some marking has a firing whose values are not related
   abbrev pub Exactly : Verdict V → Type 0
@@ -32,5 +31,5 @@ module _ {V : Type 0} (d : Meaning V) (codes : List ℤ) (n : Net) where
 
   -- along every run of an accepted claim, the first value relates to the last
   abbrev pub Keeps : Verdict V → Type 0
-  Keeps (Accepted c) = (a b : Marking) (fs : List (ℕ × List ℕ)) → Run n a fs b → d.rel (value_of d codes a) (value_of d codes b)
-  Keeps (Broken t m v w) = Unit {0}
+  Keeps (Ok c) = (a b : Marking) (fs : List (ℕ × List ℕ)) → Run n a fs b → d.rel (value_of d codes a) (value_of d codes b)
+  Keeps (Err x) = Unit {0}

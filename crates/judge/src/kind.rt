@@ -1,45 +1,48 @@
-ghost use Rattle.std.specs.Prelude.{◌≤◌, vec_len};
+ghost use Rattle.std.specs.Prelude.{◌≡◌, ◌≤◌, pos, ◌≤ℤ◌, vec_len};
 ghost use Rattle.domain.specs.Domains.{equal};
 ghost use Rattle.net.specs.Nets.{IsKind};
+ghost use Rattle.lent.specs.Held.{loan};
+ghost use Rattle.judge.specs.Calls.{SameLoans, lent};
+ghost use Rattle.judge.specs.Caps.{Asked, AskedByKind};
 ghost use Rattle.judge.specs.Kinds.{By, ByKind};
+ghost use Rattle.judge.specs.Surveys.{Surveyed};
 
-use crate::caps::cap;
-use crate::modes::{judge, measured};
-use crate::outcomes::without_values;
+use crate::caps::{begin_cap, cap};
+use crate::modes::judge;
 use crate::verdict::Outcome;
-use domain::{Equal, Kind, Most, NeverRises, Siphon, Turned};
+use crate::workspace::Workspace;
+use domain::{Equal, Kind, NeverRises, Siphon, Turned, WeightDomain};
 use lent::list::LentList;
 use net::Net;
 use term::Fault;
 
-// Judges a claim by its kind.
-pub fn judge_by_kind(
+// Judges a claim under a domain, and leaves the values out.
+fn outcome<D: WeightDomain>(
     net: &Net,
     claim: usize,
-    codes: &mut [i32],
-    before: &mut [u32],
-    after: &mut [u32],
+    d: &D,
+    memory: &mut Workspace,
 ) -> Result<Outcome, Fault>
-    ensures kinds { (k : Kind) → IsKind net.now claim k → ByKind k net.now claim (record { codes = codes.old; before = before.old; after = after.old }) (record { codes = codes.new; before = before.new; after = after.new }) result }
-    ensures none { vec_len net.now.claims ≤ claim → By equal net.now claim (record { codes = codes.old; before = before.old; after = after.old }) (record { codes = codes.new; before = before.new; after = after.new }) result }
+    ensures by { By (D.meaning d.now) net.now claim (lent memory.old) (lent memory.new) result }
+    ensures same { SameLoans memory.old memory.new }
 {
-    let Some(kind) = net.kind(claim) else {
-        return without_values(judge(net, claim, &Equal, codes, before, after));
-    };
-    match kind {
-        Kind::Equal => without_values(judge(net, claim, &Equal, codes, before, after)),
-        Kind::NeverRises => without_values(judge(net, claim, &NeverRises, codes, before, after)),
-        Kind::NeverFalls => without_values(judge(
-            net,
-            claim,
-            &Turned(NeverRises),
-            codes,
-            before,
-            after,
-        )),
-        Kind::Modulo(k) => without_values(judge(net, claim, &k, codes, before, after)),
-        Kind::Trap => without_values(judge(net, claim, &Turned(Siphon), codes, before, after)),
-        Kind::Siphon => without_values(judge(net, claim, &Siphon, codes, before, after)),
+    let verdict = judge(net, claim, d, memory)?;
+    Ok(verdict.map_err(|breach| breach.firing))
+}
+
+// Judges a claim by its kind.
+pub fn judge_by_kind(net: &Net, claim: usize, memory: &mut Workspace) -> Result<Outcome, Fault>
+    ensures kinds { (k : Kind) → IsKind net.now claim k → ByKind k net.now claim (lent memory.old) (lent memory.new) result }
+    ensures none { vec_len net.now.claims ≤ claim → By equal net.now claim (lent memory.old) (lent memory.new) result }
+    ensures same { SameLoans memory.old memory.new }
+{
+    match net.kind(claim) {
+        None | Some(Kind::Equal) => outcome(net, claim, &Equal, memory),
+        Some(Kind::NeverRises) => outcome(net, claim, &NeverRises, memory),
+        Some(Kind::NeverFalls) => outcome(net, claim, &Turned(NeverRises), memory),
+        Some(Kind::Modulo(k)) => outcome(net, claim, &k, memory),
+        Some(Kind::Trap) => outcome(net, claim, &Turned(Siphon), memory),
+        Some(Kind::Siphon) => outcome(net, claim, &Siphon, memory),
     }
 }
 
@@ -48,46 +51,39 @@ pub fn cap_by_kind(
     net: &Net,
     claim: usize,
     cell: usize,
-    codes: &mut [i32],
-    before: &mut [u32],
-    after: &mut [u32],
-) -> Result<Most, Fault> {
-    if !measured(codes, before, after) {
-        return Err(Fault::Memory);
-    }
-    let Some(kind) = net.kind(claim) else {
-        return Err(Fault::NoClaim);
-    };
-    if !net.has_cell(cell) {
-        return Err(Fault::NoCell);
-    }
-    match kind {
-        Kind::Equal => cap(net, claim, cell, &Equal, codes, before, after),
-        Kind::NeverRises => cap(net, claim, cell, &NeverRises, codes, before, after),
-        Kind::Siphon => cap(net, claim, cell, &Siphon, codes, before, after),
-        Kind::NeverFalls | Kind::Modulo(_) | Kind::Trap => {
-            net.write_codes(claim, codes);
+    memory: &mut Workspace,
+) -> Result<Option<u64>, Fault>
+    ensures kinds { (k : Kind) → IsKind net.now claim k → AskedByKind k net.now claim cell (lent memory.old) (lent memory.new) result }
+    ensures none { vec_len net.now.claims ≤ claim → Asked equal (λ v. pos 0 ≤ℤ v) net.now claim (lent memory.old) (lent memory.new) result }
+    ensures same { SameLoans memory.old memory.new }
+{
+    match net.kind(claim) {
+        None | Some(Kind::Equal) => cap(net, claim, cell, &Equal, memory),
+        Some(Kind::NeverRises) => cap(net, claim, cell, &NeverRises, memory),
+        Some(Kind::Siphon) => cap(net, claim, cell, &Siphon, memory),
+        Some(Kind::NeverFalls | Kind::Modulo(_) | Kind::Trap) => {
+            begin_cap(net, claim, cell, memory)?;
+            net.write_codes(claim, memory.codes);
             Err(Fault::NotPlain)
         }
     }
 }
 
 // Judges every claim by its kind, and adds one verdict each to the sheet.
-pub fn survey(
-    net: &Net,
-    codes: &mut [i32],
-    before: &mut [u32],
-    after: &mut [u32],
-    sheet: &mut LentList<Outcome>,
-) -> Result<(), Fault> {
-    if !measured(codes, before, after) {
+pub fn survey(net: &Net, memory: &mut Workspace, sheet: &mut LentList<Outcome>) -> Result<(), Fault>
+    ensures surveyed { Surveyed net.now (lent memory.old) (lent memory.new) sheet.old sheet.new result }
+    ensures same { SameLoans memory.old memory.new }
+    ensures loan { loan sheet.new ≡ loan sheet.old }
+{
+    if !memory.is_measured() {
         return Err(Fault::Memory);
     }
     if sheet.capacity().saturating_sub(sheet.len()) < net.claims() {
         return Err(Fault::TrailFull);
     }
     for claim in 0..net.claims() {
-        let outcome = judge_by_kind(net, claim, codes, before, after)?;
+        let outcome = judge_by_kind(net, claim, memory)?;
+        // there is room, as was asked above
         let _ = sheet.push(outcome);
     }
     Ok(())

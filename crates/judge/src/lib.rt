@@ -4,10 +4,11 @@
 mod caps;
 mod kind;
 mod modes;
-mod outcomes;
 mod verdict;
+mod workspace;
 
 pub use caps::cap;
 pub use kind::{cap_by_kind, judge_by_kind, survey};
 pub use modes::judge;
-pub use verdict::{Outcome, Verdict};
+pub use verdict::{Breach, Outcome, Verdict};
+pub use workspace::Workspace;

@@ -1,11 +1,13 @@
+ghost use Rattle.std.specs.Prelude.{◌≡◌, ◌<◌, vec_len};
 ghost use Rattle.domain.specs.Meaning.{Tells};
-ghost use Rattle.judge.specs.Calls.{AllWeigh, Called, Measured, VerdictOn};
+ghost use Rattle.judge.specs.Calls.{AllWeigh, Begun, Called, Fits, Left, Loaded, SameLoans, VerdictOn, lent};
 ghost use Rattle.judge.specs.Judged.{Judged, JudgedModes};
 
-use crate::verdict::Verdict;
+use crate::verdict::{Breach, Verdict};
+use crate::workspace::Workspace;
 use domain::WeightDomain;
 use format::Direction;
-use net::{CELLS, Net};
+use net::{Firing, Net};
 use term::Fault;
 
 // Judges the modes of one transition, the first variable slowest.
@@ -14,21 +16,23 @@ fn judge_modes<D: WeightDomain>(net: &Net, t: usize, d: &D, codes: &[i32]) -> Ve
 {
     let mut seen: u32 = 0;
     for i in 0..net.modes(t) {
-        let mode = net.mode(t, i);
-        if net.guard(t, mode) {
-            let (v, w) = net.sums(t, mode, d, codes);
-            if !d.relates(&v, &w) {
-                return Verdict::Broken {
-                    transition: t,
-                    mode,
-                    before: v,
-                    after: w,
-                };
+        let firing = Firing {
+            transition: t,
+            mode: net.mode(t, i),
+        };
+        if net.guard(firing) {
+            let (before, after) = net.sums(firing, d, codes);
+            if !d.relates(&before, &after) {
+                return Err(Breach {
+                    firing,
+                    before,
+                    after,
+                });
             }
             seen = seen.saturating_add(1);
         }
     }
-    Verdict::Accepted { modes: seen }
+    Ok(seen)
 }
 
 // Judges all transitions in the order of the file.
@@ -37,80 +41,79 @@ fn judge_all<D: WeightDomain>(net: &Net, d: &D, codes: &[i32]) -> Verdict<D::Val
 {
     let mut seen: u32 = 0;
     for t in 0..net.transitions() {
-        match judge_modes(net, t, d, codes) {
-            Verdict::Accepted { modes } => seen = seen.saturating_add(modes),
-            Verdict::Broken {
-                transition,
-                mode,
-                before,
-                after,
-            } => {
-                return Verdict::Broken {
-                    transition,
-                    mode,
-                    before,
-                    after,
-                };
-            }
-        }
+        seen = seen.saturating_add(judge_modes(net, t, d, codes)?);
     }
-    Verdict::Accepted { modes: seen }
-}
-
-// Whether the memory that a caller lends has the stated length.
-pub(crate) fn measured(codes: &[i32], before: &[u32], after: &[u32]) -> bool
-    ensures { Tells result (Measured codes.now before.now after.now) }
-{
-    codes.len() == CELLS && before.len() == CELLS && after.len() == CELLS
+    Ok(seen)
 }
 
 // Whether every code is a weight.
-pub(crate) fn are_weights<D: WeightDomain>(d: &D, codes: &[i32]) -> bool
+fn are_weights<D: WeightDomain>(d: &D, codes: &[i32]) -> bool
     ensures { Tells result (AllWeigh (D.meaning d.now) codes.now) }
 {
-    for code in codes {
-        if !d.is_weight(*code) {
-            return false;
-        }
-    }
-    true
+    codes.iter().all(|code| d.is_weight(*code))
 }
 
-// Judges the codes in memory; then the counts are t− and t+ of the mode named if broken, else 0.
+// Leaves t− and t+ of the mode named in the counts, and 0 where none is.
+fn leave<V: Drop>(net: &Net, verdict: &Verdict<V>, memory: &mut Workspace)
+    requires { Fits (lent memory.old) }
+    ensures left { Left net.now verdict.now memory.new.before.now memory.new.after.now }
+    ensures codes { memory.new.codes.now ≡ memory.old.codes.now }
+    ensures same { SameLoans memory.old memory.new }
+{
+    memory.before.fill(0);
+    memory.after.fill(0);
+    if let Err(breach) = verdict {
+        net.count(breach.firing, Direction::In, memory.before);
+        net.count(breach.firing, Direction::Out, memory.after);
+    }
+}
+
+// Judges the codes in memory.
 pub(crate) fn judge_codes<D: WeightDomain>(
     net: &Net,
     d: &D,
-    codes: &[i32],
-    before: &mut [u32],
-    after: &mut [u32],
+    memory: &mut Workspace,
 ) -> Verdict<D::Value>
-    requires { Measured codes.now before.old after.old }
-    ensures { VerdictOn (D.meaning d.now) codes.now net.now result before.new after.new }
+    requires { Fits (lent memory.old) }
+    ensures verdict { VerdictOn (D.meaning d.now) memory.old.codes.now net.now result memory.new.before.now memory.new.after.now }
+    ensures codes { memory.new.codes.now ≡ memory.old.codes.now }
+    ensures same { SameLoans memory.old memory.new }
 {
-    match judge_all(net, d, codes) {
-        Verdict::Accepted { modes } => {
-            before.fill(0);
-            after.fill(0);
-            Verdict::Accepted { modes }
-        }
-        Verdict::Broken {
-            transition,
-            mode,
-            before: v,
-            after: w,
-        } => {
-            before.fill(0);
-            after.fill(0);
-            net.count(transition, mode, Direction::In, before);
-            net.count(transition, mode, Direction::Out, after);
-            Verdict::Broken {
-                transition,
-                mode,
-                before: v,
-                after: w,
-            }
-        }
+    let verdict = judge_all(net, d, memory.codes());
+    leave(net, &verdict, memory);
+    verdict
+}
+
+// Whether a call can begin.
+pub(crate) fn begin(net: &Net, claim: usize, memory: &Workspace) -> Result<(), Fault>
+    ensures { Begun net.now claim (lent memory.now) result }
+{
+    if !memory.is_measured() {
+        return Err(Fault::Memory);
     }
+    if claim >= net.claims() {
+        return Err(Fault::NoClaim);
+    }
+    Ok(())
+}
+
+// Writes the codes of a claim, and refuses those that are no weights.
+pub(crate) fn load_codes<D: WeightDomain>(
+    net: &Net,
+    claim: usize,
+    d: &D,
+    memory: &mut Workspace,
+) -> Result<(), Fault>
+    requires fits { Fits (lent memory.old) }
+    requires there { claim < vec_len net.now.claims }
+    ensures loaded { Loaded (D.meaning d.now) net.now claim (lent memory.old) (lent memory.new) result }
+    ensures same { SameLoans memory.old memory.new }
+{
+    net.write_codes(claim, memory.codes);
+    if !are_weights(d, memory.codes()) {
+        return Err(Fault::NoWeight);
+    }
+    Ok(())
 }
 
 // Judges a claim under a domain that the caller gives.
@@ -118,21 +121,12 @@ pub fn judge<D: WeightDomain>(
     net: &Net,
     claim: usize,
     d: &D,
-    codes: &mut [i32],
-    before: &mut [u32],
-    after: &mut [u32],
+    memory: &mut Workspace,
 ) -> Result<Verdict<D::Value>, Fault>
-    ensures { Called (D.meaning d.now) net.now claim (record { codes = codes.old; before = before.old; after = after.old }) (record { codes = codes.new; before = before.new; after = after.new }) result }
+    ensures called { Called (D.meaning d.now) net.now claim (lent memory.old) (lent memory.new) result }
+    ensures same { SameLoans memory.old memory.new }
 {
-    if !measured(codes, before, after) {
-        return Err(Fault::Memory);
-    }
-    if claim >= net.claims() {
-        return Err(Fault::NoClaim);
-    }
-    net.write_codes(claim, codes);
-    if !are_weights(d, codes) {
-        return Err(Fault::NoWeight);
-    }
-    Ok(judge_codes(net, d, codes, before, after))
+    begin(net, claim, memory)?;
+    load_codes(net, claim, d, memory)?;
+    Ok(judge_codes(net, d, memory))
 }
