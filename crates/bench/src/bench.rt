@@ -1,8 +1,7 @@
+use crate::change::Change;
 use crate::counts::Counts;
-use crate::firing::Firing;
-use crate::moves::{back_on, begin_on, fire_on};
 use lent::list::LentList;
-use net::Net;
+use net::{Firing, Net};
 use term::Fault;
 
 // A marking of a net in lent counts, with a trail of the firings that led to it.
@@ -20,26 +19,45 @@ impl<'n, 'a, 'c, 'b> Bench<'n, 'a, 'c, 'b> {
         counts: &'a mut Counts<'c>,
         trail: &'a mut LentList<'b, Firing>,
     ) -> Bench<'n, 'a, 'c, 'b> {
-        begin_on(net, counts, trail);
+        counts.reset(net.initial());
+        trail.clear();
         Bench { net, counts, trail }
     }
 
     // Fires a transition in a mode, or refuses without any change.
-    pub fn fire(&mut self, transition: usize, mode: [u8; 4]) -> Result<(), Fault> {
-        let net = self.net;
-        fire_on(net, self.counts, self.trail, transition, mode)
+    pub fn fire(&mut self, firing: Firing) -> Result<(), Fault> {
+        if firing.transition >= self.net.transitions() {
+            return Err(Fault::NoTransition);
+        }
+        if !self.net.is_mode(firing) {
+            return Err(Fault::Mode);
+        }
+        if !self.net.guard(firing) {
+            return Err(Fault::Guard);
+        }
+        let change = Change::of(self.net, firing);
+        if let Some(c) = self.counts.lacking(&change) {
+            return Err(Fault::Lacks(c));
+        }
+        if let Some(c) = self.counts.passing(&change) {
+            return Err(Fault::Full(c));
+        }
+        self.trail.push(firing).map_err(|_| Fault::TrailFull)?;
+        self.counts.shift(&change);
+        Ok(())
     }
 
     // Undoes the newest firing.
     pub fn back(&mut self) -> Result<(), Fault> {
-        let net = self.net;
-        back_on(net, self.counts, self.trail)
+        let firing = self.trail.pop().ok_or(Fault::TrailEmpty)?;
+        self.counts.shift(&Change::undoing(self.net, firing));
+        Ok(())
     }
 
-    // Back to the initial marking.
+    // Back to the initial marking: what `begin` does too, before there is a bench.
     pub fn restart(&mut self) {
-        let net = self.net;
-        begin_on(net, self.counts, self.trail);
+        self.counts.reset(self.net.initial());
+        self.trail.clear();
     }
 
     // How many tokens a cell holds.

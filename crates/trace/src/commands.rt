@@ -6,7 +6,7 @@ use crate::replays::Stop;
 use term::Fault;
 
 // What a handset did on the bench.
-#[derive(Clone, Copy)]
+#[derive(Clone, Copy, PartialEq, Eq, Debug)]
 pub enum Command {
     Fire { transition: u8, mode: [u8; 4] },
     Back,
@@ -30,17 +30,8 @@ pub fn first<'f>(bytes: &'f [u8], ends: usize) -> Result<Option<(Command, &'f [u
         [0x41, rest @ ..] => Ok(Some((Command::Back, rest))),
         [0x42, rest @ ..] => Ok(Some((Command::Restart, rest))),
         [0x4F] => Ok(None),
-        [0x4F, _, ..] => Err(Stop {
-            fault: Fault::Trailing,
-            place: at + 1,
-        }),
-        [] | [0x40, ..] => Err(Stop {
-            fault: Fault::Ends,
-            place: ends,
-        }),
-        [_, ..] => Err(Stop {
-            fault: Fault::NoCommand,
-            place: at,
-        }),
+        [0x4F, _, ..] => Err(Stop::at(Fault::Trailing, at + 1)),
+        [] | [0x40, ..] => Err(Stop::at(Fault::Ends, ends)),
+        [_, ..] => Err(Stop::at(Fault::NoCommand, at)),
     }
 }

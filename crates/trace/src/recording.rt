@@ -1,4 +1,5 @@
-// A trace as it is written down, into byte memory that the caller lends at each call.
+// A trace as it is written down, into byte memory that the caller lends at each call: so a recording has a length and
+// no Vec. The two recordings are two types, since the compiler is to refuse what only the other can do.
 ghost use Rattle.std.specs.Prelude.{◌<◌, ◌≤◌};
 
 pub mod methods;

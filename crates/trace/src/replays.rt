@@ -1,98 +1,75 @@
-ghost use Rattle.std.specs.Prelude.{length};
-ghost use Rattle.trace.specs.Steps.{Shorter};
+ghost use Rattle.std.specs.Prelude.{◌≡◌};
+ghost use Rattle.trace.specs.Stops.{cell_of};
 
-use bench::{Counts, Firing, back_on, begin_on, fire_on, measure};
+use crate::commands::{Command, first};
+use bench::{Bench, Counts, Firing};
 use lent::list::LentList;
 use net::Net;
 use term::Fault;
 
-// The longest trace.
+// The longest trace, by a rule of its own.
 pub const LONGEST: usize = 65536;
 
 // Where a replay stopped: the fault, and the cell or the byte that it names, else 0.
-#[derive(Clone, Copy)]
+#[derive(Clone, Copy, PartialEq, Eq, Debug)]
 pub struct Stop {
     pub fault: Fault,
     pub place: usize,
 }
 
+impl Stop {
+    // A fault that is found at a place.
+    pub fn at(fault: Fault, place: usize) -> Stop
+        ensures { (result.fault ≡ fault) × (result.place ≡ place) }
+    {
+        Stop { fault, place }
+    }
+}
+
+// A fault of the bench names its own place.
+impl From<Fault> for Stop {
+    ghost from_gives = { λ f s. (s.fault ≡ f) × (s.place ≡ cell_of f) };
+
+    fn from(fault: Fault) -> Stop {
+        match fault {
+            Fault::Lacks(c) | Fault::Full(c) => Stop::at(fault, c),
+            _ => Stop::at(fault, 0),
+        }
+    }
+}
+
 // How many commands were carried out, and the fault that stopped the replay, if any.
-#[derive(Clone, Copy)]
+#[derive(Clone, Copy, PartialEq, Eq, Debug)]
 pub struct Replayed {
     pub carried: u32,
     pub stop: Option<Stop>,
 }
 
-// The place that a fault of the bench names.
-fn at_cell(fault: Fault) -> Stop {
-    match fault {
-        Fault::Lacks(c) | Fault::Full(c) => Stop { fault, place: c },
-        _ => Stop { fault, place: 0 },
+// Carries one command out on a bench.
+fn carry_out(bench: &mut Bench, command: Command) -> Result<(), Fault> {
+    match command {
+        Command::Fire { transition, mode } => bench.fire(Firing {
+            transition: usize::from(transition),
+            mode,
+        }),
+        Command::Back => bench.back(),
+        Command::Restart => {
+            bench.restart();
+            Ok(())
+        }
     }
 }
 
-// Carries out the first command of `bytes` and gives what follows it, or None at the end.
-fn step<'f>(
-    net: &Net,
-    counts: &mut Counts,
-    trail: &mut LentList<Firing>,
-    bytes: &'f [u8],
-    ends: usize,
-) -> Result<Option<&'f [u8]>, Stop>
-    ensures { Shorter result (length bytes.now) }
-{
-    let at = ends.saturating_sub(bytes.len());
-    match bytes {
-        [0x40, t, a, b, c, d, rest @ ..] => {
-            match fire_on(net, counts, trail, *t as usize, [*a, *b, *c, *d]) {
-                Ok(()) => Ok(Some(rest)),
-                Err(e) => Err(at_cell(e)),
-            }
-        }
-        [0x41, rest @ ..] => match back_on(net, counts, trail) {
-            Ok(()) => Ok(Some(rest)),
-            Err(e) => Err(at_cell(e)),
-        },
-        [0x42, rest @ ..] => {
-            begin_on(net, counts, trail);
-            Ok(Some(rest))
-        }
-        [0x4F] => Ok(None),
-        [0x4F, _, ..] => Err(Stop {
-            fault: Fault::Trailing,
-            place: at + 1,
-        }),
-        [] | [0x40, ..] => Err(Stop {
-            fault: Fault::Ends,
-            place: ends,
-        }),
-        [_, ..] => Err(Stop {
-            fault: Fault::NoCommand,
-            place: at,
-        }),
-    }
-}
-
-// Carries out the commands of `bytes` in their order up to the first that is turned down.
-fn run(net: &Net, counts: &mut Counts, trail: &mut LentList<Firing>, bytes: &[u8]) -> Replayed {
+// Carries out the commands of `bytes` in their order, and counts them, up to the first that is turned down. The count is
+// the caller's, so that it stands after a stop too.
+fn carry_all(bench: &mut Bench, bytes: &[u8], carried: &mut u32) -> Result<(), Stop> {
     let mut rest = bytes;
-    let mut carried: u32 = 0;
-    'commands: loop {
-        match step(net, counts, trail, rest, bytes.len()) {
-            Ok(Some(next)) => {
-                rest = next;
-                carried = carried.saturating_add(1);
-            }
-            Ok(None) => return Replayed {
-                carried,
-                stop: None,
-            },
-            Err(stop) => return Replayed {
-                carried,
-                stop: Some(stop),
-            },
-        }
+    'commands: while let Some((command, next)) = first(rest, bytes.len())? {
+        carry_out(bench, command)?;
+        rest = next;
+        *carried = carried.saturating_add(1);
     }
+    Ok(())
 }
 
 // Replays a trace on a new bench in lent memory.
@@ -102,17 +79,16 @@ pub fn replay(
     trail: &mut LentList<Firing>,
     bytes: &[u8],
 ) -> Result<Replayed, Fault> {
-    measure(cells)?;
-    let mut counts = Counts::over(cells);
-    begin_on(net, &mut counts, trail);
-    if bytes.len() > LONGEST {
-        return Ok(Replayed {
-            carried: 0,
-            stop: Some(Stop {
-                fault: Fault::TooLong,
-                place: LONGEST,
-            }),
-        });
-    }
-    Ok(run(net, &mut counts, trail, bytes))
+    let mut counts = Counts::new(cells)?;
+    let mut bench = Bench::begin(net, &mut counts, trail);
+    let mut carried = 0;
+    let end = if bytes.len() > LONGEST {
+        Err(Stop::at(Fault::TooLong, LONGEST))
+    } else {
+        carry_all(&mut bench, bytes, &mut carried)
+    };
+    Ok(Replayed {
+        carried,
+        stop: end.err(),
+    })
 }

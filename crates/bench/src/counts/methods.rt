@@ -1,12 +1,14 @@
-ghost use Rattle.std.specs.Prelude.{◌≡◌, ℕ, ◌+◌, ◌-◌, ◌^◌, ◌<◌, ◌≤◌, length, Some, None, Ok, Err, ◌≢◌, slice_index};
+ghost use Rattle.std.specs.Prelude.{◌≡◌, ℕ, ◌^◌, ◌<◌, ◌≤◌, length, Some, None, Ok, Err, ◌≢◌, slice_index};
 ghost use Rattle.term.specs.declared.fault.Fault.TheVariants.{Memory};
-ghost use Rattle.bench.specs.Counted.{tokens};
+ghost use Rattle.bench.specs.Counted.{changed, loan, tokens};
 
 use super::Counts;
+use crate::change::Change;
 use net::CELLS;
 use term::Fault;
 
-// Memory of another length gets a fault, before a bench is begun on it.
+// Memory of another length gets a fault, before a bench is begun on it. It stands beside what the judge and recordings
+// ask of theirs: one shared test of one comparison would be no shorter.
 pub fn measure(cells: &[u16]) -> Result<(), Fault>
     ensures { elim result [ Ok _ ↦ length cells.now ≡ 1024 | Err e ↦ (length cells.now ≢ 1024) × (e ≡ Memory) ] }
 {
@@ -18,11 +20,19 @@ pub fn measure(cells: &[u16]) -> Result<(), Fault>
 }
 
 impl<'c> Counts<'c> {
+    // Counts in memory that is measured here; memory of another length gets a fault.
+    pub fn new(cells: &'c mut [u16]) -> Result<Counts<'c>, Fault>
+        ensures { elim result [ Ok k ↦ (length cells.old ≡ 1024) × (k.cells.now ≡ cells.old) × (loan k ≡ cells.entry.ghost_name) | Err e ↦ (length cells.old ≢ 1024) × (e ≡ Memory) ] }
+    {
+        measure(cells)?;
+        Ok(Counts::over(cells))
+    }
+
     // Counts in memory that was measured.
     pub fn over(cells: &'c mut [u16]) -> Counts<'c>
         requires { length cells.old ≡ 1024 }
         ensures value { result.cells.now ≡ cells.old }
-        ensures named { result.cells.ghost_name ≡ cells.entry.ghost_name }
+        ensures loan { loan result ≡ cells.entry.ghost_name }
     {
         Counts { cells }
     }
@@ -31,55 +41,49 @@ impl<'c> Counts<'c> {
     pub fn at(&self, c: usize) -> u16
         ensures { result ≡ tokens self.now c }
     {
-        let cells: &[u16] = self.cells;
-        if c < cells.len() { cells[c] } else { 0 }
+        self.cells.get(c).copied().unwrap_or(0)
     }
 
     // The lowest cell that has less than is to be taken.
-    pub fn lacking(&self, takes: &[u32; CELLS]) -> Option<usize>
-        ensures { elim result [ Some c ↦ (c < 1024) × (tokens self.now c < slice_index takes.now c) × ((k : ℕ) → k < c → slice_index takes.now k ≤ tokens self.now k) | None ↦ ((k : ℕ) → k < 1024 → slice_index takes.now k ≤ tokens self.now k) ] }
+    pub fn lacking(&self, change: &Change) -> Option<usize>
+        ensures { elim result [ Some c ↦ (c < 1024) × (tokens self.now c < slice_index change.now.takes c) × ((k : ℕ) → k < c → slice_index change.now.takes k ≤ tokens self.now k) | None ↦ ((k : ℕ) → k < 1024 → slice_index change.now.takes k ≤ tokens self.now k) ] }
     {
-        let cells: &[u16] = self.cells;
-        for c in 0..CELLS {
-            if u32::from(cells[c]) < takes[c] {
-                return Some(c);
-            }
-        }
-        None
+        self.cells
+            .iter()
+            .zip(&change.takes)
+            .position(|(have, take)| u32::from(*have) < *take)
     }
 
     // The lowest cell that would pass 65,535 once the tokens are taken and put.
-    pub fn passing(&self, takes: &[u32; CELLS], puts: &[u32; CELLS]) -> Option<usize>
-        ensures { elim result [ Some c ↦ (c < 1024) × (2 ^ 16 ≤ (tokens self.now c - slice_index takes.now c) + slice_index puts.now c) × ((k : ℕ) → k < c → (tokens self.now k - slice_index takes.now k) + slice_index puts.now k < 2 ^ 16) | None ↦ ((k : ℕ) → k < 1024 → (tokens self.now k - slice_index takes.now k) + slice_index puts.now k < 2 ^ 16) ] }
+    pub fn passing(&self, change: &Change) -> Option<usize>
+        ensures { elim result [ Some c ↦ (c < 1024) × (2 ^ 16 ≤ changed self.now change.now c) × ((k : ℕ) → k < c → changed self.now change.now k < 2 ^ 16) | None ↦ ((k : ℕ) → k < 1024 → changed self.now change.now k < 2 ^ 16) ] }
     {
-        let cells: &[u16] = self.cells;
-        for c in 0..CELLS {
-            let left = u32::from(cells[c]).saturating_sub(takes[c]);
-            if left.saturating_add(puts[c]) > 65535 {
-                return Some(c);
-            }
-        }
-        None
+        self.cells
+            .iter()
+            .zip(&change.takes)
+            .zip(&change.puts)
+            .position(|((have, take), put)| {
+                u32::from(*have).saturating_sub(*take).saturating_add(*put) > 65535
+            })
     }
 
-    // Takes `takes` off the counts and puts `puts` there; what passes 65,535 is held at it.
-    pub fn shift(&mut self, takes: &[u32; CELLS], puts: &[u32; CELLS])
-        ensures shifted { (k : ℕ) → k < 1024 → (tokens self.old k - slice_index takes.now k) + slice_index puts.now k < 2 ^ 16 → tokens self.new k ≡ (tokens self.old k - slice_index takes.now k) + slice_index puts.now k }
-        ensures named { self.new.cells.ghost_name ≡ self.old.cells.ghost_name }
+    // Makes a change of the counts; what passes 65,535 is held at it.
+    pub fn shift(&mut self, change: &Change)
+        ensures shifted { (k : ℕ) → k < 1024 → changed self.old change.now k < 2 ^ 16 → tokens self.new k ≡ changed self.old change.now k }
+        ensures loan { loan self.new ≡ loan self.old }
     {
-        for c in 0..CELLS {
-            let left = u32::from(self.cells[c]).saturating_sub(takes[c]);
-            self.cells[c] = left.saturating_add(puts[c]).min(65535) as u16;
+        // over a zip of `iter_mut`, a proof knows nothing of the cells
+        for (c, cell) in self.cells.iter_mut().enumerate() {
+            let left = u32::from(*cell).saturating_sub(change.takes[c]);
+            *cell = left.saturating_add(change.puts[c]).min(65535) as u16;
         }
     }
 
     // Makes the counts those of a marking.
     pub fn reset(&mut self, start: &[u16; CELLS])
         ensures value { (k : ℕ) → k < 1024 → tokens self.new k ≡ slice_index start.now k }
-        ensures named { self.new.cells.ghost_name ≡ self.old.cells.ghost_name }
+        ensures loan { loan self.new ≡ loan self.old }
     {
-        for c in 0..CELLS {
-            self.cells[c] = start[c];
-        }
+        self.cells.copy_from_slice(start);
     }
 }

@@ -10,6 +10,17 @@ use crate::commands::Command;
 use crate::replays::LONGEST;
 use term::Fault;
 
+// Memory of another length than the recording's gets a fault.
+fn measure(memory: &[u8], room: usize) -> Result<(), Fault>
+    ensures { refusal result ≡ measured room memory.now }
+{
+    if memory.len() == room {
+        Ok(())
+    } else {
+        Err(Fault::Memory)
+    }
+}
+
 // Writes some bytes into the memory at a place.
 fn put(memory: &mut [u8], at: usize, bytes: &[u8])
     requires { at + length bytes.now ≤ length memory.old }
@@ -41,9 +52,7 @@ impl OpenRecording {
         ensures refused { refusal result ≡ adding self.old memory.old (length bytes.now) }
         ensures appended { MatchResult result (λ _. Appended self.old self.new memory.old memory.new bytes.now) (λ _. Kept self.old self.new memory.old memory.new) }
     {
-        if memory.len() != self.room {
-            return Err(Fault::Memory);
-        }
+        measure(memory, self.room)?;
         let len = self.len + bytes.len();
         if len >= memory.len().min(LONGEST) {
             return Err(Fault::RecordingFull);
@@ -53,10 +62,11 @@ impl OpenRecording {
         Ok(())
     }
 
-    // Appends a command's code and operands.
-    fn write(&mut self, memory: &mut [u8], command: Command) -> Result<(), Fault>
+    // Adds a command, with operands of any value.
+    #[tactic(auto, using(crate::proofs::Filled::added))]
+    pub fn add(&mut self, memory: &mut [u8], command: Command) -> Result<(), Fault>
         ensures refused { refusal result ≡ adding self.old memory.old (length (bytes_of (move_of command))) }
-        ensures appended { MatchResult result (λ _. Appended self.old self.new memory.old memory.new (bytes_of (move_of command))) (λ _. Kept self.old self.new memory.old memory.new) }
+        ensures added { MatchResult result (λ _. Added self.old self.new memory.old memory.new (move_of command)) (λ _. Kept self.old self.new memory.old memory.new) }
     {
         match command {
             Command::Fire { transition, mode } => {
@@ -68,20 +78,12 @@ impl OpenRecording {
         }
     }
 
-    // Adds a command, with operands of any value.
-    pub fn add(&mut self, memory: &mut [u8], command: Command) -> Result<(), Fault>
-        ensures refused { refusal result ≡ adding self.old memory.old (length (bytes_of (move_of command))) }
-        ensures added { MatchResult result (λ _. Added self.old self.new memory.old memory.new (move_of command)) (λ _. Kept self.old self.new memory.old memory.new) }
-    {
-        self.write(memory, command)
-    }
-
     // Writes the end into the free byte. Memory of another length leaves the recording open, and gives it back.
     pub fn end(self, memory: &mut [u8]) -> Result<EndedRecording, (OpenRecording, Fault)>
         ensures { MatchResult result (λ e. (length memory.old ≡ self.room) × Closed self e memory.old memory.new) (λ p. (length memory.old ≢ self.room) × (p.0 ≡ self) × (number_of p.1 ≡ 11) × (memory.new ≡ memory.old)) }
     {
-        if memory.len() != self.room {
-            return Err((self, Fault::Memory));
+        if let Err(fault) = measure(memory, self.room) {
+            return Err((self, fault));
         }
         put(memory, self.len, &[0x4F]);
         Ok(EndedRecording {
@@ -105,9 +107,7 @@ impl EndedRecording {
         ensures bytes { IfOk result (λ b. b.now ≡ take self.now.len memory.now) }
         ensures says { IfOk result (λ b. (ms : List Move) → Holds memory.now self.now ms → SaysOnly b.now ms end) }
     {
-        if memory.len() != self.room {
-            return Err(Fault::Memory);
-        }
+        measure(memory, self.room)?;
         Ok(&memory[..self.len])
     }
 }

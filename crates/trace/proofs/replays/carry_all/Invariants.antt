@@ -1,5 +1,5 @@
 use Rattle.std.proofs.Common.{length}
-use Rattle.trace.proofs.replays.run.Given as goal
+use Rattle.trace.proofs.replays.carry_all.Given as goal
 
 abbrev pub decreases-commands : goal.decreases-commands
 decreases-commands l = length l.rest
