@@ -20,7 +20,7 @@ use Call::{Back, Fire, Restart};
 // Makes a call.
 fn make(bench: &mut Bench, call: Call) -> Result<(), Fault> {
     match call {
-        Fire(transition, mode) => bench.fire(transition, mode),
+        Fire(transition, mode) => bench.fire(Firing { transition, mode }),
         Back => bench.back(),
         Restart => {
             bench.restart();
@@ -32,40 +32,23 @@ fn make(bench: &mut Bench, call: Call) -> Result<(), Fault> {
 // A call, its answer, and how many tokens one cell then has.
 type Step = (Call, Result<(), Fault>, usize, u16);
 
-// Checks calls in a row on a new bench.
-fn check_calls<'n, 'a, 'c, 'b>(
-    rt: &impl Abort,
-    at: &str,
-    net: &'n Net,
-    counts: &'a mut Counts<'c>,
-    trail: &'a mut LentList<'b, Firing>,
-    steps: &[Step],
-) {
-    let mut bench = Bench::begin(net, counts, trail);
-    for (i, step) in steps.iter().enumerate() {
-        let (call, answer, cell, count) = *step;
-        assert_eq!(rt; make(&mut bench, call), answer, "{at} {}", i);
-        assert_eq!(rt; bench.count(cell), Ok(count), "{at} {}", i);
-    }
-}
+// Memory of a trail, before anything fires.
+pub const BLANK: Firing = Firing {
+    transition: 0,
+    mode: [0; 4],
+};
 
-// The same in memory of its own, on a trail with room for so many firings.
-fn check_steps(
-    rt: &impl Abort,
-    at: &str,
-    net: &Net,
-    room: usize,
-    steps: &[Step],
-) -> Result<(), Fail> {
+// Checks calls in a row on a new bench, on a trail with room for so many firings.
+fn check_steps(rt: &impl Abort, at: &str, net: &Net, room: usize, steps: &[Step]) {
     let mut cells = [7; CELLS];
-    let mut memory = [Firing {
-        transition: 0,
-        mode: [0; 4],
-    }; 8];
+    let mut memory = [BLANK; 8];
     let mut trail = LentList::new(&mut memory[0..room.min(8)]);
     let mut counts = Counts::over(&mut cells);
-    check_calls(rt, at, net, &mut counts, &mut trail, steps);
-    Ok(())
+    let mut bench = Bench::begin(net, &mut counts, &mut trail);
+    for (i, (call, answer, cell, count)) in steps.iter().enumerate() {
+        assert_eq!(rt; make(&mut bench, *call), *answer, "{at} {}", i);
+        assert_eq!(rt; bench.count(*cell), Ok(*count), "{at} {}", i);
+    }
 }
 
 const STEPS: [Step; 21] = [
@@ -110,9 +93,10 @@ const ROOM_FOR_ONE: [Step; 5] = [
 fn calls_on_the_small_net(rt: HostRuntime) -> Result<(), Fail> {
     let file = joined(rt.alloc(), &[SMALL])?;
     let net = net_of(rt.alloc(), file.as_slice())?;
-    check_steps(&rt, "the small net", &net, 8, &STEPS)?;
-    check_steps(&rt, "no room", &net, 0, &NO_ROOM)?;
-    check_steps(&rt, "room for one", &net, 1, &ROOM_FOR_ONE)
+    check_steps(&rt, "the small net", &net, 8, &STEPS);
+    check_steps(&rt, "no room", &net, 0, &NO_ROOM);
+    check_steps(&rt, "room for one", &net, 1, &ROOM_FOR_ONE);
+    Ok(())
 }
 
 // Cell 0 holds 65,534. Transition 0 puts 1 there, 1 takes 1 and puts 1, 2 takes 1 and puts 2, 3 puts 1 there and
@@ -151,7 +135,7 @@ const AT_ONCE: [Step; 4] = [
 fn full_cells_and_guards(rt: HostRuntime) -> Result<(), Fail> {
     let file = joined(rt.alloc(), &[NEARLY_FULL])?;
     let net = net_of(rt.alloc(), file.as_slice())?;
-    check_steps(&rt, "nearly full", &net, 8, &FULL)?;
+    check_steps(&rt, "nearly full", &net, 8, &FULL);
     let file = repeated(
         rt.alloc(),
         MANY,
@@ -160,16 +144,12 @@ fn full_cells_and_guards(rt: HostRuntime) -> Result<(), Fail> {
         "0900 32 3300210100 32 3300210100 3300210100 0F",
     )?;
     let net = net_of(rt.alloc(), file.as_slice())?;
-    check_steps(&rt, "at once", &net, 8, &AT_ONCE)
+    check_steps(&rt, "at once", &net, 8, &AT_ONCE);
+    Ok(())
 }
 
 // Checks the counts of a new bench on the small net.
-fn check_counts<'n, 'a, 'c, 'b>(
-    rt: &impl Abort,
-    net: &'n Net,
-    counts: &'a mut Counts<'c>,
-    trail: &'a mut LentList<'b, Firing>,
-) {
+fn check_counts(rt: &impl Abort, net: &Net, counts: &mut Counts, trail: &mut LentList<Firing>) {
     let bench = Bench::begin(net, counts, trail);
     for cell in 0..2000 {
         let want = match cell {
@@ -189,10 +169,7 @@ fn cells_of_a_bench(rt: HostRuntime) -> Result<(), Fail> {
     assert_eq!(rt; measure(&[0; 1023]), Err(Fault::Memory));
     assert_eq!(rt; measure(&[0; 1025]), Err(Fault::Memory));
     assert_eq!(rt; measure(&cells), Ok(()));
-    let mut memory = [Firing {
-        transition: 0,
-        mode: [0; 4],
-    }; 1];
+    let mut memory = [BLANK; 1];
     let mut trail = LentList::new(&mut memory);
     let mut counts = Counts::over(&mut cells);
     check_counts(&rt, &net, &mut counts, &mut trail);
@@ -207,13 +184,12 @@ fn channels(bench: &Bench) -> Result<u32, Fault> {
 }
 
 // Makes random calls on a new bench, checks the value after each, and gives how many were carried out.
-fn check_random<'n, 'a, 'c, 'b>(
-    rt: &impl Abort,
-    net: &'n Net,
-    counts: &'a mut Counts<'c>,
-    trail: &'a mut LentList<'b, Firing>,
-) -> u32 {
-    let mut bench = Bench::begin(net, counts, trail);
+fn check_random(rt: &impl Abort, net: &Net) -> u32 {
+    let mut cells = [7; CELLS];
+    let mut memory = [BLANK; 32];
+    let mut trail = LentList::new(&mut memory);
+    let mut counts = Counts::over(&mut cells);
+    let mut bench = Bench::begin(net, &mut counts, &mut trail);
     let mut seed: u32 = 1;
     let mut carried: u32 = 0;
     for i in 0..1000 {
@@ -235,15 +211,7 @@ fn check_random<'n, 'a, 'c, 'b>(
 fn a_thousand_random_calls_keep_the_value(rt: HostRuntime) -> Result<(), Fail> {
     let file = joined(rt.alloc(), &[SMALL])?;
     let net = net_of(rt.alloc(), file.as_slice())?;
-    let mut cells = [7; CELLS];
-    let mut memory = [Firing {
-        transition: 0,
-        mode: [0; 4],
-    }; 32];
-    let mut trail = LentList::new(&mut memory);
-    let mut counts = Counts::over(&mut cells);
-    let carried = check_random(&rt, &net, &mut counts, &mut trail);
-    assert!(rt; carried > 100);
-    assert!(rt; carried < 1000);
+    let carried = check_random(&rt, &net);
+    assert!(rt; 100 < carried && carried < 1000);
     Ok(())
 }

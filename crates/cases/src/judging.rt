@@ -1,30 +1,48 @@
 // Verdicts, caps, and what lent memory holds after them.
 use crate::nets::{MANY, SMALL, TWICE, changed, joined, net_of, repeated};
-use domain::{Equal, Most, Siphon};
-use judge::{Outcome, Verdict, cap, cap_by_kind, judge, judge_by_kind, survey};
+use domain::{Equal, Siphon};
+use judge::{Breach, Outcome, Workspace, cap, cap_by_kind, judge, judge_by_kind, survey};
 use lent::list::LentList;
-use net::{CELLS, Net, ReadError};
+use net::{CELLS, Firing, Net, ReadError};
 use std::alloc::Global;
 use std::process::Abort;
 use std::test::Fail;
 use term::Fault;
 
-// What judging answers: the number of modes, the transition and the mode that break the claim, or a fault's number.
-#[derive(Clone, Copy, PartialEq, Eq, Debug)]
-enum Answer {
-    Accepted(u32),
-    Broken(usize, [u8; 4]),
-    Refused(u8),
+// Memory to judge in, 7 everywhere.
+#[derive(Drop)]
+struct Lent {
+    codes: [i32; CELLS],
+    before: [u32; CELLS],
+    after: [u32; CELLS],
 }
 
-use Answer::{Accepted, Broken, Refused};
-
-fn told(verdict: Result<Outcome, Fault>) -> Answer {
-    match verdict {
-        Ok(Outcome::Accepted { modes }) => Accepted(modes),
-        Ok(Outcome::Broken { transition, mode }) => Broken(transition, mode),
-        Err(fault) => Refused(fault.number()),
+impl Lent {
+    fn new() -> Lent {
+        Lent {
+            codes: [7; CELLS],
+            before: [7; CELLS],
+            after: [7; CELLS],
+        }
     }
+
+    fn workspace(&mut self) -> Workspace<'_> {
+        let Lent {
+            codes,
+            before,
+            after,
+        } = self;
+        Workspace {
+            codes,
+            before,
+            after,
+        }
+    }
+}
+
+// A claim that breaks at a transition, in a mode.
+fn broken(transition: usize, mode: [u8; 4]) -> Outcome {
+    Err(Firing { transition, mode })
 }
 
 // Checks the verdict of claim 0.
@@ -33,87 +51,82 @@ fn check_answer(
     at: &str,
     heap: Global,
     file: &[u8],
-    want: Answer,
+    want: Outcome,
 ) -> Result<(), Fail> {
     let net = net_of(heap, file)?;
-    let mut codes = [7; CELLS];
-    let mut before = [7; CELLS];
-    let mut after = [7; CELLS];
-    assert_eq!(rt;
-        told(judge_by_kind(&net, 0, &mut codes, &mut before, &mut after)),
-        want,
-        "{at}"
-    );
+    let mut lent = Lent::new();
+    let mut memory = lent.workspace();
+    assert_eq!(rt; judge_by_kind(&net, 0, &mut memory), Ok(want), "{at}");
     Ok(())
 }
 
 // Nets, and the verdict of claim 0.
-const VERDICTS: [(&str, Answer); 16] = [
-    (SMALL, Accepted(4)),
+const VERDICTS: [(&str, Result<u32, (usize, [u8; 4])>); 16] = [
+    (SMALL, Ok(4)),
     // x is taken and its neighbours in a chain of three are put: as equal, never rises and never falls
     (
         "0103 030101000100010001000100 0401 060101000000 0800312000 090033002000 0A010000 0B0000000001 0F",
-        Broken(0, [1, 0, 0, 0]),
+        Err((0, [1, 0, 0, 0])),
     ),
     (
         "0103 030101000100010001000100 0401 060101000000 0800312000 090033002000 0A020000 0B0000000001 0F",
-        Broken(0, [1, 0, 0, 0]),
+        Err((0, [1, 0, 0, 0])),
     ),
     (
         "0103 030101000100010001000100 0401 060101000000 0800312000 090033002000 0A030000 0B0000000001 0F",
-        Accepted(3),
+        Ok(3),
     ),
     // one token is taken and three are put: modulo 2, modulo 3
     (
         "0101 03010103 0401 060000000000 080031210100 09003300210100 0A040002 0B0000000001 0F",
-        Accepted(1),
+        Ok(1),
     ),
     (
         "0101 03010103 0401 060000000000 080031210100 09003300210100 0A040003 0B0000000001 0F",
-        Broken(0, [0, 0, 0, 0]),
+        Err((0, [0, 0, 0, 0])),
     ),
     // only the last mode of the last transition breaks; with another table none does
     (
         "0103 0202010000000000000001 0400 060000000000 060201000000
          0800312200 2000 2001 090031210000 0A010000 0C000100000001 0F",
-        Broken(1, [2, 1, 0, 0]),
+        Err((1, [2, 1, 0, 0])),
     ),
     (
         "0103 0202010000000000000000 0400 060000000000 060201000000
          0800312200 2000 2001 090031210000 0A010000 0C000100000001 0F",
-        Accepted(7),
+        Ok(7),
     ),
     // a claim without weights
-    ("0400 060100000000 0800312000 0A010000 0F", Accepted(2)),
+    ("0400 060100000000 0800312000 0A010000 0F", Ok(2)),
     // a guard that is never true
     (
         "0400 060100000000 07210000 0800312000 0A010000 0B0000000001 0F",
-        Accepted(0),
+        Ok(0),
     ),
     // x is taken and y is put: where both are true, where they are the same, where they are not
     (
         "0400 060200000000 072520002001 0800312000 0900312001 0A010000 0C000100000001 0F",
-        Accepted(1),
+        Ok(1),
     ),
     (
         "0400 060200000000 072300 2000 2001 0800312000 0900312001 0A010000 0C000100000001 0F",
-        Accepted(2),
+        Ok(2),
     ),
     (
         "0400 060200000000 07242300 2000 2001 0800312000 0900312001 0A010000 0C000100000001 0F",
-        Broken(0, [0, 1, 0, 0]),
+        Err((0, [0, 1, 0, 0])),
     ),
     // no transitions
-    ("0400 0A010000 0B0000000001 0F", Accepted(0)),
+    ("0400 0A010000 0B0000000001 0F", Ok(0)),
     // as many modes as there may be; and only the last of them takes a token
     (
         "0110 0401 060401010101 0800312000 0900312000 0A010000 0B0000000001 0F",
-        Accepted(65536),
+        Ok(65536),
     ),
     (
         "0110 0401 060401010101 0725 25 2301200021010F 2301200121010F 25 2301200221010F 2301200321010F
          0800312000 0A010000 0B0000000001 0F",
-        Broken(0, [15, 15, 15, 15]),
+        Err((0, [15, 15, 15, 15])),
     ),
 ];
 
@@ -121,16 +134,11 @@ const VERDICTS: [(&str, Answer); 16] = [
 fn verdicts_by_kind(rt: HostRuntime) -> Result<(), Fail> {
     for (file, want) in VERDICTS {
         let bytes = joined(rt.alloc(), &[file])?;
+        let want = want.map_err(|(transition, mode)| Firing { transition, mode });
         check_answer(&rt, file, rt.alloc(), bytes.as_slice(), want)?;
     }
     let larger = changed(rt.alloc(), 1, 2, "40")?;
-    check_answer(
-        &rt,
-        "a larger sort",
-        rt.alloc(),
-        larger.as_slice(),
-        Accepted(128),
-    )
+    check_answer(&rt, "a larger sort", rt.alloc(), larger.as_slice(), Ok(128))
 }
 
 // How many of the counts are not 0.
@@ -160,22 +168,21 @@ fn caps_of_a_channel_that_is_kept(rt: HostRuntime) -> Result<(), Fail> {
     for (claim, _, want, counts) in KINDS {
         let file = changed(rt.alloc(), 63, 73, claim)?;
         let net = net_of(rt.alloc(), file.as_slice())?;
-        let mut codes = [7; CELLS];
-        let mut before = [7; CELLS];
-        let mut after = [7; CELLS];
+        let mut lent = Lent::new();
+        let mut memory = lent.workspace();
         assert_eq!(rt;
-            cap_of(cap_by_kind(&net, 0, 64, &mut codes, &mut before, &mut after)),
+            cap_of(cap_by_kind(&net, 0, 64, &mut memory)),
             want,
             "{}",
             claim
         );
         assert_eq!(rt;
-            (marked(&before), marked(&after)),
+            (marked(&lent.before), marked(&lent.after)),
             (counts, counts),
             "{}",
             claim
         );
-        assert_eq!(rt; (codes[64], codes[66]), (1, 0), "{}", claim);
+        assert_eq!(rt; (lent.codes[64], lent.codes[66]), (1, 0), "{}", claim);
     }
     Ok(())
 }
@@ -185,25 +192,39 @@ fn a_channel_that_is_kept(rt: HostRuntime) -> Result<(), Fail> {
     for (claim, accepted, _, _) in KINDS {
         let file = changed(rt.alloc(), 63, 73, claim)?;
         let net = net_of(rt.alloc(), file.as_slice())?;
-        let mut codes = [7; CELLS];
-        let mut before = [7; CELLS];
-        let mut after = [7; CELLS];
-        let outcome = judge_by_kind(&net, 0, &mut codes, &mut before, &mut after);
+        let mut lent = Lent::new();
+        let mut memory = lent.workspace();
+        let outcome = judge_by_kind(&net, 0, &mut memory);
         assert_eq!(rt;
             (
-                codes[0], codes[64], codes[65], codes[66], codes[128], codes[129],
+                lent.codes[0],
+                lent.codes[64],
+                lent.codes[65],
+                lent.codes[66],
+                lent.codes[128],
+                lent.codes[129],
             ),
             (0, 1, 1, 0, 1, 0),
             "{}",
             claim
         );
         if accepted {
-            assert_eq!(rt; told(outcome), Accepted(4), "{}", claim);
-            assert_eq!(rt; (marked(&before), marked(&after)), (0, 0), "{}", claim);
+            assert_eq!(rt; outcome, Ok(Ok(4)), "{}", claim);
+            assert_eq!(rt;
+                (marked(&lent.before), marked(&lent.after)),
+                (0, 0),
+                "{}",
+                claim
+            );
         } else {
-            assert_eq!(rt; told(outcome), Broken(1, [0; 4]), "{}", claim);
-            assert_eq!(rt; (marked(&before), before[64]), (1, 1), "{}", claim);
-            assert_eq!(rt; (marked(&after), after[0]), (1, 1), "{}", claim);
+            assert_eq!(rt; outcome, Ok(broken(1, [0; 4])), "{}", claim);
+            assert_eq!(rt;
+                (marked(&lent.before), lent.before[64]),
+                (1, 1),
+                "{}",
+                claim
+            );
+            assert_eq!(rt; (marked(&lent.after), lent.after[0]), (1, 1), "{}", claim);
         }
     }
     Ok(())
@@ -222,36 +243,28 @@ const TAKES_AND_RETURNS: &str = "0101 0401 0401 060000000000 080031210100 090031
 
 const RETURNS: [bool; 7] = [true, true, false, true, true, true, false];
 
-// What a sheet holds at a place.
-fn answer_at(sheet: &LentList<Outcome>, i: usize) -> Option<Answer> {
-    match sheet.get(i) {
-        Some(outcome) => Some(told(Ok(outcome))),
-        None => None,
-    }
-}
-
 #[test]
 fn siphons_and_traps_in_a_survey(rt: HostRuntime) -> Result<(), Fail> {
     let file = joined(rt.alloc(), &[TAKES_AND_RETURNS])?;
     let net = net_of(rt.alloc(), file.as_slice())?;
-    let mut codes = [7; CELLS];
-    let mut before = [7; CELLS];
-    let mut after = [7; CELLS];
-    let mut places = [Outcome::Accepted { modes: 9 }; 9];
+    let mut lent = Lent::new();
+    let mut memory = lent.workspace();
+    let mut places: [Outcome; 9] = [Ok(9); 9];
     let mut sheet = LentList::new(&mut places);
-    assert!(rt; sheet.push(Outcome::Accepted { modes: 8 }).is_ok());
-    assert!(rt; survey(&net, &mut codes, &mut before, &mut after, &mut sheet).is_ok());
-    assert_eq!(rt; answer_at(&sheet, 0), Some(Accepted(8)));
+    assert!(rt; sheet.push(Ok(8)).is_ok());
+    assert!(rt; survey(&net, &mut memory, &mut sheet).is_ok());
+    assert_eq!(rt; sheet.get(0), Some(Ok(8)));
     for (i, accepted) in RETURNS.iter().enumerate() {
-        let want = if *accepted {
-            Accepted(1)
-        } else {
-            Broken(0, [0; 4])
-        };
-        assert_eq!(rt; answer_at(&sheet, i.saturating_add(1)), Some(want), "{}", i);
+        let want = if *accepted { Ok(1) } else { broken(0, [0; 4]) };
+        assert_eq!(rt; sheet.get(i.saturating_add(1)), Some(want), "{}", i);
     }
     assert_eq!(rt;
-        (marked(&before), marked(&after), codes[0], codes[64]),
+        (
+            marked(&lent.before),
+            marked(&lent.after),
+            lent.codes[0],
+            lent.codes[64]
+        ),
         (1, 2, 0, 1)
     );
     Ok(())
@@ -266,26 +279,24 @@ fn a_survey_measures_first(rt: HostRuntime) -> Result<(), Fail> {
     let mut short = [7; 1023];
     let mut before = [7; CELLS];
     let mut after = [7; CELLS];
-    let mut places = [Outcome::Accepted { modes: 9 }; 6];
+    let mut places: [Outcome; 6] = [Ok(9); 6];
     let mut sheet = LentList::new(&mut places);
+    let mut memory = Workspace {
+        codes: &mut codes,
+        before: &mut before,
+        after: &mut after,
+    };
     // seven places are wanted
-    assert_eq!(rt;
-        refusal(survey(&net, &mut codes, &mut before, &mut after, &mut sheet)),
-        22
-    );
-    assert_eq!(rt;
-        refusal(survey(&net, &mut short, &mut before, &mut after, &mut sheet)),
-        11
-    );
+    assert_eq!(rt; refusal(survey(&net, &mut memory, &mut sheet)), 22);
     // without claims nothing is written, but the memory is measured
-    assert_eq!(rt;
-        refusal(survey(&empty, &mut codes, &mut before, &mut after, &mut sheet)),
-        0
-    );
-    assert_eq!(rt;
-        refusal(survey(&empty, &mut short, &mut before, &mut after, &mut sheet)),
-        11
-    );
+    assert_eq!(rt; refusal(survey(&empty, &mut memory, &mut sheet)), 0);
+    let mut memory = Workspace {
+        codes: &mut short,
+        before: &mut before,
+        after: &mut after,
+    };
+    assert_eq!(rt; refusal(survey(&net, &mut memory, &mut sheet)), 11);
+    assert_eq!(rt; refusal(survey(&empty, &mut memory, &mut sheet)), 11);
     assert_eq!(rt; (sheet.len(), codes[0], before[0], after[0]), (0, 7, 7, 7));
     Ok(())
 }
@@ -301,21 +312,16 @@ fn refusal(done: Result<(), Fault>) -> u8 {
 // A cap: a number, none for unbounded, or the number of a fault.
 type Cap = Result<Option<u64>, u8>;
 
-fn cap_of(most: Result<Most, Fault>) -> Cap {
-    match most {
-        Ok(Most::At(n)) => Ok(Some(n)),
-        Ok(Most::Unbounded) => Ok(None),
-        Err(fault) => Err(fault.number()),
-    }
+fn cap_of(most: Result<Option<u64>, Fault>) -> Cap {
+    most.map_err(|fault| fault.number())
 }
 
 // The cap of a cell by claim 0.
 fn first_cap(heap: Global, file: &[u8], cell: usize) -> Result<Cap, ReadError> {
     let net = net_of(heap, file)?;
-    let mut codes = [7; CELLS];
-    let mut before = [7; CELLS];
-    let mut after = [7; CELLS];
-    Ok(cap_of(cap_by_kind(&net, 0, cell, &mut codes, &mut before, &mut after)))
+    let mut lent = Lent::new();
+    let mut memory = lent.workspace();
+    Ok(cap_of(cap_by_kind(&net, 0, cell, &mut memory)))
 }
 
 // The small net with the bytes from one place up to 73 replaced, a cell, and its cap.
@@ -418,18 +424,20 @@ fn check_refused(
     let mut codes = [7; 1025];
     let mut before = [7; 1025];
     let mut after = [7; 1025];
-    let lent = &mut codes[0..lengths[0].min(1025)];
-    let taken = &mut before[0..lengths[1].min(1025)];
-    let put = &mut after[0..lengths[2].min(1025)];
+    let mut memory = Workspace {
+        codes: &mut codes[0..lengths[0].min(1025)],
+        before: &mut before[0..lengths[1].min(1025)],
+        after: &mut after[0..lengths[2].min(1025)],
+    };
     assert_eq!(rt;
-        cap_of(cap_by_kind(net, claim, cell, lent, taken, put)),
+        cap_of(cap_by_kind(net, claim, cell, &mut memory)),
         Err(number),
         "{at}"
     );
     if number < 13 {
         assert_eq!(rt;
-            told(judge_by_kind(net, claim, lent, taken, put)),
-            Refused(number),
+            judge_by_kind(net, claim, &mut memory).map_err(|fault| fault.number()),
+            Err(number),
             "{at}"
         );
     }
@@ -461,56 +469,39 @@ fn refusals_leave_the_memory(rt: HostRuntime) -> Result<(), Fail> {
 
 #[test]
 fn under_a_given_domain(rt: HostRuntime) -> Result<(), Fail> {
-    let mut codes = [7; CELLS];
-    let mut before = [7; CELLS];
-    let mut after = [7; CELLS];
+    let mut lent = Lent::new();
+    let mut memory = lent.workspace();
     // a channel that is kept; the kind of the claim plays no part
     let kept = changed(rt.alloc(), 63, 73, "0A050000")?;
     let net = net_of(rt.alloc(), kept.as_slice())?;
-    match judge(&net, 0, &Equal, &mut codes, &mut before, &mut after) {
+    match judge(&net, 0, &Equal, &mut memory) {
         Ok(
-            Verdict::Broken {
-                transition,
-                mode,
-                before,
-                after,
-            },
-        ) => { assert_eq!(rt; (transition, mode, before, after), (1, [0; 4], 1, 0)) }
+            Err(
+                Breach {
+                    firing,
+                    before,
+                    after,
+                },
+            ),
+        ) => {
+            assert_eq!(rt;
+                (firing.transition, firing.mode, before, after),
+                (1, [0; 4], 1, 0)
+            )
+        }
         _ => return Err(Fail::new("not broken")),
     }
-    assert!(rt;
-        matches!(
-            judge(&net, 0, &Siphon, &mut codes, &mut before, &mut after),
-            Ok(Verdict::Accepted { modes: 4 })
-        )
-    );
-    assert_eq!(rt;
-        cap_of(cap(&net, 0, 64, &Siphon, &mut codes, &mut before, &mut after)),
-        Ok(None)
-    );
-    assert_eq!(rt;
-        cap_of(cap(&net, 0, 64, &Equal, &mut codes, &mut before, &mut after)),
-        Err(16)
-    );
+    assert!(rt; matches!(judge(&net, 0, &Siphon, &mut memory), Ok(Ok(4))));
+    assert_eq!(rt; cap_of(cap(&net, 0, 64, &Siphon, &mut memory)), Ok(None));
+    assert_eq!(rt; cap_of(cap(&net, 0, 64, &Equal, &mut memory)), Err(16));
     // a code that is no weight of the domain
     let two = changed(rt.alloc(), 73, 85, "0C0000FFFFFFFE")?;
     let net = net_of(rt.alloc(), two.as_slice())?;
-    before[3] = 9;
-    assert!(rt;
-        matches!(
-            judge(&net, 0, &Siphon, &mut codes, &mut before, &mut after),
-            Err(Fault::NoWeight)
-        )
-    );
-    assert_eq!(rt;
-        cap_of(cap(&net, 0, 0, &Siphon, &mut codes, &mut before, &mut after)),
-        Err(14)
-    );
-    assert_eq!(rt;
-        cap_of(cap(&net, 0, 0, &Equal, &mut codes, &mut before, &mut after)),
-        Err(15)
-    );
-    assert_eq!(rt; (codes[0], codes[1], before[3]), (-2, 0, 9));
+    memory.before[3] = 9;
+    assert!(rt; matches!(judge(&net, 0, &Siphon, &mut memory), Err(Fault::NoWeight)));
+    assert_eq!(rt; cap_of(cap(&net, 0, 0, &Siphon, &mut memory)), Err(14));
+    assert_eq!(rt; cap_of(cap(&net, 0, 0, &Equal, &mut memory)), Err(15));
+    assert_eq!(rt; (lent.codes[0], lent.codes[1], lent.before[3]), (-2, 0, 9));
     Ok(())
 }
 
@@ -528,15 +519,21 @@ fn many_tokens_weigh_exactly(rt: HostRuntime) -> Result<(), Fail> {
     let mut codes = [7; CELLS];
     let mut counts = [7; CELLS];
     let mut after = [7; CELLS];
-    match judge(&net, 0, &Equal, &mut codes, &mut counts, &mut after) {
+    let mut memory = Workspace {
+        codes: &mut codes,
+        before: &mut counts,
+        after: &mut after,
+    };
+    match judge(&net, 0, &Equal, &mut memory) {
         Ok(
-            Verdict::Broken {
-                transition,
-                mode: _,
-                before,
-                after,
-            },
-        ) => { assert_eq!(rt; (transition, before, after), (0, 0, -65_535_000_000)) }
+            Err(
+                Breach {
+                    firing,
+                    before,
+                    after,
+                },
+            ),
+        ) => { assert_eq!(rt; (firing.transition, before, after), (0, 0, -65_535_000_000)) }
         _ => return Err(Fail::new("not broken")),
     }
     assert_eq!(rt; (marked(&counts), after[0]), (0, 65535));

@@ -26,15 +26,10 @@ fn digit(c: u8) -> Option<u8> {
 // Adds the bytes of hexadecimal digits; spaces do not count.
 fn add_hex(bytes: &mut Vec<u8>, text: &str) -> Result<(), AllocError> {
     let mut high = None;
-    for c in text.bytes() {
-        if let Some(low) = digit(c) {
-            match high {
-                None => high = Some(low),
-                Some(h) => {
-                    bytes.push(h << 4 | low)?;
-                    high = None;
-                }
-            }
+    for low in text.bytes().filter_map(digit) {
+        match high.take() {
+            None => high = Some(low),
+            Some(h) => bytes.push(h << 4 | low)?,
         }
     }
     Ok(())
@@ -79,9 +74,7 @@ pub fn changed(heap: Global, from: usize, to: usize, with: &str) -> Result<Vec<u
 
 // The net that a file reads as.
 pub fn net_of(heap: Global, file: &[u8]) -> Result<Net, ReadError> {
-    let Ok(mut net) = Net::new(heap) else {
-        return Err(ReadError::Memory);
-    };
+    let mut net = Net::new(heap)?;
     read(&mut net, file)?;
     Ok(net)
 }

@@ -7,40 +7,34 @@ use std::test::Fail;
 use term::Stage;
 use term::Stage::{Command, File, Term};
 
+// The fault of a file: its number, its byte and its stage.
+type Found = (u8, usize, Stage);
+
+// The fault of a file that does not read.
+fn fault_of(heap: Global, file: &[u8]) -> Result<Option<Found>, Fail> {
+    match net_of(heap, file) {
+        Ok(_) => Ok(None),
+        Err(ReadError::File(f)) => Ok(Some((f.fault.number(), f.place, f.stage))),
+        Err(ReadError::Memory) => Err(Fail::new("no memory")),
+    }
+}
+
 // Checks that a file has this fault.
 fn check_fault(
     rt: &impl Abort,
     at: &str,
     heap: Global,
     file: &[u8],
-    number: u8,
-    place: usize,
-    stage: Stage,
+    want: Found,
 ) -> Result<(), Fail> {
-    match net_of(heap, file) {
-        Ok(_) => Err(Fail::new(format_args!("{at}: reads"))),
-        Err(ReadError::Memory) => Err(Fail::new(format_args!("{at}: no memory"))),
-        Err(ReadError::File(f)) => {
-            assert_eq!(rt;
-                (f.fault.number(), f.place, f.stage),
-                (number, place, stage),
-                "{at}"
-            );
-            Ok(())
-        },
-    }
+    assert_eq!(rt; fault_of(heap, file)?, Some(want), "{at}");
+    Ok(())
 }
 
 // Checks that a file reads.
 fn check_reads(rt: &impl Abort, at: &str, heap: Global, file: &[u8]) -> Result<(), Fail> {
-    match net_of(heap, file) {
-        Ok(_) => Ok(()),
-        Err(ReadError::Memory) => Err(Fail::new(format_args!("{at}: no memory"))),
-        Err(ReadError::File(f)) => {
-            assert_eq!(rt; (f.fault.number(), f.place, f.stage), (0, 0, File), "{at}");
-            Ok(())
-        },
-    }
+    assert_eq!(rt; fault_of(heap, file)?, None, "{at}");
+    Ok(())
 }
 
 // The small net with the bytes from one place up to another replaced.
@@ -74,9 +68,7 @@ fn changes_of_the_small_net(rt: HostRuntime) -> Result<(), Fail> {
             format!(in rt.alloc(); "{with} from {from}")?.as_str(),
             rt.alloc(),
             file.as_slice(),
-            number,
-            place,
-            stage,
+            (number, place, stage),
         )?;
     }
     Ok(())
@@ -95,9 +87,7 @@ fn a_cut_off_file_lacks_its_next_byte(rt: HostRuntime) -> Result<(), Fail> {
             format!(in rt.alloc(); "{length}")?.as_str(),
             rt.alloc(),
             file.as_slice(),
-            2,
-            length,
-            stage,
+            (2, length, stage),
         )?;
     }
     Ok(())
@@ -189,9 +179,7 @@ fn faults_of_commands(rt: HostRuntime) -> Result<(), Fail> {
             file,
             rt.alloc(),
             bytes.as_slice(),
-            number,
-            place,
-            stage,
+            (number, place, stage),
         )?;
     }
     Ok(())
@@ -267,9 +255,7 @@ fn faults_in_terms(rt: HostRuntime) -> Result<(), Fail> {
             more,
             rt.alloc(),
             file.as_slice(),
-            number,
-            place.saturating_add(46),
-            stage,
+            (number, place.saturating_add(46), stage),
         )?;
     }
     Ok(())
@@ -332,9 +318,7 @@ fn sixteen_levels_are_the_deepest(rt: HostRuntime) -> Result<(), Fail> {
             tail,
             rt.alloc(),
             file.as_slice(),
-            number,
-            place.saturating_add(46),
-            Term,
+            (number, place.saturating_add(46), Term),
         )?;
     }
     let term = repeated(rt.alloc(), "060000000000 07", "24", 15, "210000 0F")?;
@@ -382,10 +366,10 @@ fn one_more_passes_a_limit(rt: HostRuntime) -> Result<(), Fail> {
         check_reads(&rt, unit, rt.alloc(), file.as_slice())?;
         let place = file.len().saturating_sub(1);
         let mut file = repeated(rt.alloc(), head, unit, most.saturating_add(1), "0F")?;
-        check_fault(&rt, unit, rt.alloc(), file.as_slice(), 5, place, Command)?;
+        check_fault(&rt, unit, rt.alloc(), file.as_slice(), (5, place, Command))?;
         // the fault is at the code byte, whatever follows it
         file.truncate(place.saturating_add(1));
-        check_fault(&rt, unit, rt.alloc(), file.as_slice(), 5, place, Command)?;
+        check_fault(&rt, unit, rt.alloc(), file.as_slice(), (5, place, Command))?;
     }
     Ok(())
 }
@@ -407,9 +391,7 @@ fn the_longest_file(rt: HostRuntime) -> Result<(), Fail> {
         "one byte more",
         rt.alloc(),
         file.as_slice(),
-        1,
-        65536,
-        File,
+        (1, 65536, File),
     )?;
     let mut zeros = repeated(rt.alloc(), "", "00", 65537, "")?;
     check_fault(
@@ -417,12 +399,10 @@ fn the_longest_file(rt: HostRuntime) -> Result<(), Fail> {
         "zeros, one more",
         rt.alloc(),
         zeros.as_slice(),
-        1,
-        65536,
-        File,
+        (1, 65536, File),
     )?;
     zeros.truncate(65536);
-    check_fault(&rt, "zeros", rt.alloc(), zeros.as_slice(), 3, 0, Command)
+    check_fault(&rt, "zeros", rt.alloc(), zeros.as_slice(), (3, 0, Command))
 }
 
 #[test]

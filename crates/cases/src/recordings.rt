@@ -1,6 +1,6 @@
 // Recordings: what they write, where they are full, and what their traces do.
 use crate::nets::{SMALL, joined, net_of};
-use crate::traces::{Ended, QUIET, SENDING, check_replay};
+use crate::traces::{Left, QUIET, SENDING, check_replay};
 use std::process::Abort;
 use std::test::Fail;
 use term::Fault;
@@ -23,18 +23,17 @@ const OTHER: Command = Command::Fire {
 
 // The number of a refusal, 0 where there is none.
 fn number(answer: Result<(), Fault>) -> u8 {
-    match answer {
-        Ok(()) => 0,
-        Err(fault) => fault.number(),
-    }
+    answer.err().map_or(0, |fault| fault.number())
 }
 
 // A recording that was just opened.
 fn opened(memory: &[u8]) -> Result<OpenRecording, Fail> {
-    match OpenRecording::open(memory) {
-        Ok(open) => Ok(open),
-        Err(_) => Err(Fail::new("not opened")),
-    }
+    OpenRecording::open(memory).map_err(|_| Fail::new("not opened"))
+}
+
+// The bytes of a recording.
+fn traced<'m>(ended: &EndedRecording, memory: &'m [u8]) -> Result<&'m [u8], Fail> {
+    ended.trace(memory).map_err(|_| Fail::new("no trace"))
 }
 
 // A recording of so many restarts and then of commands, each with the number of its refusal.
@@ -51,10 +50,7 @@ fn restarts(
     for (command, want) in commands {
         assert_eq!(rt; number(open.add(memory, *command)), *want);
     }
-    match open.end(memory) {
-        Ok(ended) => Ok(ended),
-        Err(_) => Err(Fail::new("not ended")),
-    }
+    open.end(memory).map_err(|_| Fail::new("not ended"))
 }
 
 // A recording of some commands, each with the number of its refusal.
@@ -100,7 +96,7 @@ fn a_shorter_command_may_still_fit(rt: HostRuntime) -> Result<(), Fail> {
 
 #[test]
 fn opening_needs_one_byte(rt: HostRuntime) -> Result<(), Fail> {
-    assert!(rt; matches!(OpenRecording::open(&[]), Err(Fault::RecordingFull)));
+    assert_eq!(rt; OpenRecording::open(&[]).err(), Some(Fault::RecordingFull));
     let mut memory = [0xAA; 1];
     let ended = recorded(&rt, &mut memory, &[(Command::Back, 24)])?;
     assert_eq!(rt; ended.len(), 1);
@@ -127,15 +123,11 @@ fn lent_another(
     assert_eq!(rt; number(open.add(other, FIRE)), 11);
     assert_eq!(rt; number(open.add(memory, Command::Back)), 0);
     assert_eq!(rt; number(open.add(other, Command::Back)), 11);
-    let (open, fault) = match open.end(other) {
-        Err(kept) => kept,
-        Ok(_) => return Err(Fail::new("ended in other memory")),
+    let Err((open, fault)) = open.end(other) else {
+        return Err(Fail::new("ended in other memory"));
     };
     assert_eq!(rt; fault.number(), 11);
-    match open.end(memory) {
-        Ok(ended) => Ok(ended),
-        Err(_) => Err(Fail::new("not ended")),
-    }
+    open.end(memory).map_err(|_| Fail::new("not ended"))
 }
 
 #[test]
@@ -144,8 +136,8 @@ fn memory_of_another_length_leaves_a_recording_open(rt: HostRuntime) -> Result<(
     let mut longer = [0xBB; 3];
     let ended = lent_another(&rt, &mut memory, &mut longer)?;
     assert_eq!(rt; ended.len(), 2);
-    assert!(rt; matches!(ended.trace(&longer), Err(Fault::Memory)));
-    assert!(rt; matches!(ended.trace(&memory), Ok([0x41, 0x4F])));
+    assert_eq!(rt; ended.trace(&longer), Err(Fault::Memory));
+    assert_eq!(rt; ended.trace(&memory), Ok(&[0x41, 0x4F][..]));
     assert_eq!(rt; longer, [0xBB; 3]);
     Ok(())
 }
@@ -163,68 +155,45 @@ fn a_recording_ends_at_65536_bytes(rt: HostRuntime) -> Result<(), Fail> {
     ];
     let ended = restarts(&rt, memory.as_mut_slice(), 65534, &more)?;
     assert_eq!(rt; ended.len(), 65536);
-    assert!(rt; matches!(memory.get(65535), Some(0x4F)));
-    assert!(rt; matches!(memory.get(65536), Some(0xAA)));
-    let Ok(bytes) = ended.trace(memory.as_slice()) else {
-        return Err(Fail::new("no trace"));
-    };
-    check_replay(
-        &rt,
-        "the longest",
-        rt.alloc(),
-        &net,
-        bytes,
-        (65535, 0, 0),
-        0,
-        QUIET,
-    )
+    assert_eq!(rt;
+        (memory.get(65535), memory.get(65536)),
+        (Some(&0x4F), Some(&0xAA))
+    );
+    let bytes = traced(&ended, memory.as_slice())?;
+    let want = ((65535, 0, 0), 0, QUIET);
+    check_replay(&rt, "the longest", rt.alloc(), &net, bytes, want)
 }
 
-// Commands to record, and how their replay on the small net ends: how many were carried out, the fault and its place,
-// how many firings are then on the trail, and the tokens.
-const ROUND_TRIPS: [(&[(Command, u8)], Ended, usize, [u16; 4]); 5] = [
-    (&[], (0, 0, 0), 0, QUIET),
+// Commands to record, and what their replay on the small net leaves.
+const ROUND_TRIPS: [(&[(Command, u8)], Left); 5] = [
+    (&[], ((0, 0, 0), 0, QUIET)),
     (
         &[(FIRE, 0), (STOP, 0), (Command::Back, 0)],
-        (3, 0, 0),
-        1,
-        SENDING,
+        ((3, 0, 0), 1, SENDING),
     ),
     (
         &[(FIRE, 0), (Command::Restart, 0), (FIRE, 0)],
-        (3, 0, 0),
-        1,
-        SENDING,
+        ((3, 0, 0), 1, SENDING),
     ),
     (
         &[(FIRE, 0), (Command::Back, 0), (Command::Back, 0), (FIRE, 0)],
-        (2, 23, 0),
-        0,
-        QUIET,
+        ((2, 23, 0), 0, QUIET),
     ),
-    (&[(FIRE, 0), (OTHER, 0), (STOP, 0)], (1, 17, 0), 1, SENDING),
+    (
+        &[(FIRE, 0), (OTHER, 0), (STOP, 0)],
+        ((1, 17, 0), 1, SENDING),
+    ),
 ];
 
 #[test]
 fn recordings_replayed(rt: HostRuntime) -> Result<(), Fail> {
     let file = joined(rt.alloc(), &[SMALL])?;
     let net = net_of(rt.alloc(), file.as_slice())?;
-    for (commands, want, firings, tokens) in ROUND_TRIPS {
+    for (commands, want) in ROUND_TRIPS {
         let mut memory = [0xAA; 32];
         let ended = recorded(&rt, &mut memory, commands)?;
-        let Ok(bytes) = ended.trace(&memory) else {
-            return Err(Fail::new("no trace"));
-        };
-        check_replay(
-            &rt,
-            "a recording",
-            rt.alloc(),
-            &net,
-            bytes,
-            want,
-            firings,
-            tokens,
-        )?;
+        let bytes = traced(&ended, &memory)?;
+        check_replay(&rt, "a recording", rt.alloc(), &net, bytes, want)?;
     }
     Ok(())
 }

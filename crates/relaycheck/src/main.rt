@@ -5,10 +5,10 @@ mod report;
 
 use anyhow::anyhow;
 use bench::Firing;
-use judge::{Outcome, survey};
+use judge::{Outcome, Workspace, survey};
 use lent::list::LentList;
 use net::{CELLS, Net, ReadError, read};
-use report::{add_cells, add_claim, add_fault, add_replay};
+use report::{ClaimLine, FaultLine, ReplayLine};
 use std::alloc::{AllocError, Global};
 use std::fs;
 use trace::replay;
@@ -18,10 +18,7 @@ const TRAIL: usize = 8192;
 
 // What a file holds; one that cannot be read counts as empty.
 fn contents(rt: &HostRuntime, path: &str) -> Vec<u8> {
-    match fs::read(rt, path) {
-        Ok(bytes) => bytes,
-        Err(_) => Vec::new(rt.alloc()),
-    }
+    fs::read(rt, path).unwrap_or_else(|_| Vec::new(rt.alloc()))
 }
 
 // The verdicts of all claims, one line each.
@@ -29,13 +26,17 @@ fn add_claims(net: &Net, text: &mut String) -> Result<(), AllocError> {
     let mut codes = [0i32; CELLS];
     let mut before = [0u32; CELLS];
     let mut after = [0u32; CELLS];
-    let mut memory = [Outcome::Accepted { modes: 0 }; 16];
-    let mut sheet = LentList::new(&mut memory);
-    let _ = survey(net, &mut codes, &mut before, &mut after, &mut sheet);
-    for claim in 0..sheet.len() {
-        if let Some(outcome) = sheet.get(claim) {
-            add_claim(text, claim, outcome)?;
-        }
+    let mut memory = Workspace {
+        codes: &mut codes,
+        before: &mut before,
+        after: &mut after,
+    };
+    let mut outcomes: [Outcome; 16] = [Ok(0); 16];
+    let mut sheet = LentList::new(&mut outcomes);
+    let _ = survey(net, &mut memory, &mut sheet);
+    for (claim, outcome) in sheet.as_slice().iter().enumerate() {
+        let outcome = *outcome;
+        writeln!(text, "{}", ClaimLine { claim, outcome })?;
     }
     Ok(())
 }
@@ -49,9 +50,13 @@ fn add_trace(heap: Global, net: &Net, bytes: &[u8], text: &mut String) -> anyhow
     }; TRAIL]?;
     let mut trail = LentList::new(memory.as_mut_slice());
     if let Ok(done) = replay(net, &mut counts, &mut trail, bytes) {
-        add_replay(text, done)?;
+        writeln!(text, "{}", ReplayLine(done))?;
     }
-    add_cells(text, &counts)?;
+    for (cell, count) in counts.iter().enumerate() {
+        if *count > 0 {
+            writeln!(text, "cell {cell} {count}")?;
+        }
+    }
     Ok(())
 }
 
@@ -66,7 +71,7 @@ fn run(rt: &HostRuntime) -> anyhow::Result<String> {
             add_claims(&net, &mut text)?;
             add_trace(heap, &net, bytes.as_slice(), &mut text)?;
         }
-        Err(ReadError::File(fault)) => add_fault(&mut text, fault)?,
+        Err(ReadError::File(fault)) => writeln!(text, "{}", FaultLine(fault))?,
         Err(ReadError::Memory) => return Err(anyhow!("out of memory")),
     }
     Ok(text)

@@ -1,52 +1,57 @@
 // The lines of the report.
 use judge::Outcome;
-use std::alloc::AllocError;
-use term::{FileFault, Stage};
+use std::fmt;
+use term::FileFault;
 use trace::Replayed;
 
 // A net that does not read: the fault's number, its byte, and what was being read there.
-pub fn add_fault(text: &mut String, f: FileFault) -> Result<(), AllocError> {
-    let number = f.fault.number();
-    let place = f.place;
-    let stage = match f.stage {
-        Stage::File => "file",
-        Stage::Command => "command",
-        Stage::Term => "term",
-    };
-    writeln!(text, "net fault {number} {place} {stage}")
+#[derive(Drop)]
+pub struct FaultLine(pub FileFault);
+
+impl fmt::Display for FaultLine {
+    fn fmt<W: fmt::Write>(&self, f: &mut fmt::Formatter<W>) -> fmt::Result {
+        let number = self.0.fault.number();
+        let place = self.0.place;
+        let stage = self.0.stage;
+        write!(f, "net fault {number} {place} {stage}")
+    }
 }
 
 // A claim's verdict.
-pub fn add_claim(text: &mut String, claim: usize, outcome: Outcome) -> Result<(), AllocError> {
-    match outcome {
-        Outcome::Accepted { modes } => writeln!(text, "claim {claim} accepted {modes}"),
-        Outcome::Broken { transition, mode } => {
-            let [a, b, c, d] = mode;
-            writeln!(text, "claim {claim} broken {transition} {a} {b} {c} {d}")
+#[derive(Drop)]
+pub struct ClaimLine {
+    pub claim: usize,
+    pub outcome: Outcome,
+}
+
+impl fmt::Display for ClaimLine {
+    fn fmt<W: fmt::Write>(&self, f: &mut fmt::Formatter<W>) -> fmt::Result {
+        let claim = self.claim;
+        match self.outcome {
+            Ok(modes) => write!(f, "claim {claim} accepted {modes}"),
+            Err(firing) => {
+                let transition = firing.transition;
+                let [a, b, c, d] = firing.mode;
+                write!(f, "claim {claim} broken {transition} {a} {b} {c} {d}")
+            }
         }
     }
 }
 
 // How many commands were carried out, and what stopped the replay, if anything.
-pub fn add_replay(text: &mut String, done: Replayed) -> Result<(), AllocError> {
-    let carried = done.carried;
-    match done.stop {
-        None => writeln!(text, "replay {carried} done"),
-        Some(stop) => {
-            let number = stop.fault.number();
-            let place = stop.place;
-            writeln!(text, "replay {carried} stopped {number} {place}")
-        }
-    }
-}
+#[derive(Drop)]
+pub struct ReplayLine(pub Replayed);
 
-// The cells that hold tokens, rising.
-pub fn add_cells(text: &mut String, counts: &[u16]) -> Result<(), AllocError> {
-    for (cell, count) in counts.iter().enumerate() {
-        let n = *count;
-        if n > 0 {
-            writeln!(text, "cell {cell} {n}")?;
+impl fmt::Display for ReplayLine {
+    fn fmt<W: fmt::Write>(&self, f: &mut fmt::Formatter<W>) -> fmt::Result {
+        let carried = self.0.carried;
+        match self.0.stop {
+            None => write!(f, "replay {carried} done"),
+            Some(stop) => {
+                let number = stop.fault.number();
+                let place = stop.place;
+                write!(f, "replay {carried} stopped {number} {place}")
+            }
         }
     }
-    Ok(())
 }
