@@ -2,9 +2,10 @@ ghost use Rattle.std.specs.Prelude.{◌≡◌, length};
 
 pub mod methods;
 
-// Lent memory of the stated length: a count for each cell.
+// Lent memory of the stated length: a count for each cell. Who knows the length makes it of its one field, and `new`
+// measures.
 #[derive(Drop)]
 pub struct Counts<'c> {
-    cells: &'c mut [u16],
+    pub cells: &'c mut [u16],
     ghost long: { length cells.now ≡ 1024 },
 }

@@ -43,7 +43,7 @@ fn check_steps(rt: &impl Abort, at: &str, net: &Net, room: usize, steps: &[Step]
     let mut cells = [7; CELLS];
     let mut memory = [BLANK; 8];
     let mut trail = LentList::new(&mut memory[0..room.min(8)]);
-    let mut counts = Counts::over(&mut cells);
+    let mut counts = Counts { cells: &mut cells };
     let mut bench = Bench::begin(net, &mut counts, &mut trail);
     for (i, (call, answer, cell, count)) in steps.iter().enumerate() {
         assert_eq!(rt; make(&mut bench, *call), *answer, "{at} {}", i);
@@ -171,7 +171,7 @@ fn cells_of_a_bench(rt: HostRuntime) -> Result<(), Fail> {
     assert_eq!(rt; measure(&cells), Ok(()));
     let mut memory = [BLANK; 1];
     let mut trail = LentList::new(&mut memory);
-    let mut counts = Counts::over(&mut cells);
+    let mut counts = Counts { cells: &mut cells };
     check_counts(&rt, &net, &mut counts, &mut trail);
     // memory that is no cell of the net is 0 too
     assert_eq!(rt; (counts.at(2), counts.at(1023)), (0, 0));
@@ -188,7 +188,7 @@ fn check_random(rt: &impl Abort, net: &Net) -> u32 {
     let mut cells = [7; CELLS];
     let mut memory = [BLANK; 32];
     let mut trail = LentList::new(&mut memory);
-    let mut counts = Counts::over(&mut cells);
+    let mut counts = Counts { cells: &mut cells };
     let mut bench = Bench::begin(net, &mut counts, &mut trail);
     let mut seed: u32 = 1;
     let mut carried: u32 = 0;

@@ -5,8 +5,7 @@
 mod firing;
 #[cfg(test)]
 mod judging;
-#[cfg(test)]
-mod nets;
+pub mod nets;
 #[cfg(test)]
 mod reading;
 #[cfg(test)]

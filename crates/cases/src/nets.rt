@@ -1,4 +1,7 @@
 // Files as hexadecimal digits, in parts, and small changes of them.
+ghost use Rattle.std.specs.Prelude.{◌≡◌};
+ghost use Rattle.cases.specs.Digits.{hex_digit};
+
 use net::{Net, ReadError, read};
 use std::alloc::{AllocError, Global};
 
@@ -15,7 +18,9 @@ pub const MANY: &str = "0101 030101FF 0401 060000000000";
 pub const TWICE: &str = "0900 32 3300210100 3300210100";
 
 // The value of a hexadecimal digit.
-fn digit(c: u8) -> Option<u8> {
+fn digit(c: u8) -> Option<u8>
+    ensures { result ≡ hex_digit c }
+{
     match c {
         b'0'..=b'9' => Some(c - b'0'),
         b'A'..=b'F' => Some(c - b'A' + 10),

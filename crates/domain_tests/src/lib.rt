@@ -52,10 +52,9 @@ impl WeightDomain for Greatest {
     }
 }
 
-// The sum of one weight for each code, in any domain: few enough codes that it is exact.
+// The sum of one weight for each code, in any domain; it is exact for as many as 10,000 codes.
 pub fn total<D: WeightDomain>(d: &D, codes: &[i32]) -> D::Value
-    requires { length codes.now ≤ 10000 }
-    ensures { result ≡ total_of (D.meaning d.now) codes.now }
+    ensures { length codes.now ≤ 10000 → result ≡ total_of (D.meaning d.now) codes.now }
 {
     let mut sum = d.zero();
     for code in codes {

@@ -25,16 +25,7 @@ impl<'c> Counts<'c> {
         ensures { elim result [ Ok k ↦ (length cells.old ≡ 1024) × (k.cells.now ≡ cells.old) × (loan k ≡ cells.entry.ghost_name) | Err e ↦ (length cells.old ≢ 1024) × (e ≡ Memory) ] }
     {
         measure(cells)?;
-        Ok(Counts::over(cells))
-    }
-
-    // Counts in memory that was measured.
-    pub fn over(cells: &'c mut [u16]) -> Counts<'c>
-        requires { length cells.old ≡ 1024 }
-        ensures value { result.cells.now ≡ cells.old }
-        ensures loan { loan result ≡ cells.entry.ghost_name }
-    {
-        Counts { cells }
+        Ok(Counts { cells })
     }
 
     // The count of a cell, 0 past the last.
