@@ -4,12 +4,13 @@ use lent::list::LentList;
 use net::{Firing, Net};
 use term::Fault;
 
-// A marking of a net in lent counts, with a trail of the firings that led to it.
+// A marking of a net in lent counts, with a trail of the firings that led to it. Who has both as they stand makes a bench
+// of its fields; `begin` makes a new one.
 #[derive(Drop)]
 pub struct Bench<'n, 'a, 'c, 'b> {
-    net: &'n Net,
-    counts: &'a mut Counts<'c>,
-    trail: &'a mut LentList<'b, Firing>,
+    pub net: &'n Net,
+    pub counts: &'a mut Counts<'c>,
+    pub trail: &'a mut LentList<'b, Firing>,
 }
 
 impl<'n, 'a, 'c, 'b> Bench<'n, 'a, 'c, 'b> {
@@ -19,9 +20,9 @@ impl<'n, 'a, 'c, 'b> Bench<'n, 'a, 'c, 'b> {
         counts: &'a mut Counts<'c>,
         trail: &'a mut LentList<'b, Firing>,
     ) -> Bench<'n, 'a, 'c, 'b> {
-        counts.reset(net.initial());
-        trail.clear();
-        Bench { net, counts, trail }
+        let mut bench = Bench { net, counts, trail };
+        bench.restart();
+        bench
     }
 
     // Fires a transition in a mode, or refuses without any change.
@@ -54,7 +55,7 @@ impl<'n, 'a, 'c, 'b> Bench<'n, 'a, 'c, 'b> {
         Ok(())
     }
 
-    // Back to the initial marking: what `begin` does too, before there is a bench.
+    // Back to the initial marking, with an empty trail.
     pub fn restart(&mut self) {
         self.counts.reset(self.net.initial());
         self.trail.clear();

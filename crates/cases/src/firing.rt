@@ -149,8 +149,7 @@ fn full_cells_and_guards(rt: HostRuntime) -> Result<(), Fail> {
 }
 
 // Checks the counts of a new bench on the small net.
-fn check_counts(rt: &impl Abort, net: &Net, counts: &mut Counts, trail: &mut LentList<Firing>) {
-    let bench = Bench::begin(net, counts, trail);
+fn check_counts(rt: &impl Abort, bench: &Bench) {
     for cell in 0..2000 {
         let want = match cell {
             0 | 1 | 128 => Ok(1),
@@ -172,7 +171,8 @@ fn cells_of_a_bench(rt: HostRuntime) -> Result<(), Fail> {
     let mut memory = [BLANK; 1];
     let mut trail = LentList::new(&mut memory);
     let mut counts = Counts { cells: &mut cells };
-    check_counts(&rt, &net, &mut counts, &mut trail);
+    let bench = Bench::begin(&net, &mut counts, &mut trail);
+    check_counts(&rt, &bench);
     // memory that is no cell of the net is 0 too
     assert_eq!(rt; (counts.at(2), counts.at(1023)), (0, 0));
     Ok(())

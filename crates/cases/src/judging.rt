@@ -1,7 +1,7 @@
 // Verdicts, caps, and what lent memory holds after them.
-use crate::nets::{MANY, SMALL, TWICE, changed, joined, net_of, repeated};
+use crate::nets::{MANY, SMALL, TWICE, changed, joined, net_of, number, repeated};
 use domain::{Equal, Siphon};
-use judge::{Breach, Outcome, Workspace, cap, cap_by_kind, judge, judge_by_kind, survey};
+use judge::{Breach, Judge, Outcome};
 use lent::list::LentList;
 use net::{CELLS, Firing, Net, ReadError};
 use std::alloc::Global;
@@ -26,13 +26,14 @@ impl Lent {
         }
     }
 
-    fn workspace(&mut self) -> Workspace<'_> {
+    fn judge<'l>(&'l mut self, net: &'l Net) -> Judge<'l, 'l> {
         let Lent {
             codes,
             before,
             after,
         } = self;
-        Workspace {
+        Judge {
+            net,
             codes,
             before,
             after,
@@ -55,8 +56,8 @@ fn check_answer(
 ) -> Result<(), Fail> {
     let net = net_of(heap, file)?;
     let mut lent = Lent::new();
-    let mut memory = lent.workspace();
-    assert_eq!(rt; judge_by_kind(&net, 0, &mut memory), Ok(want), "{at}");
+    let mut judge = lent.judge(&net);
+    assert_eq!(rt; judge.judge_by_kind(0), Ok(want), "{at}");
     Ok(())
 }
 
@@ -143,13 +144,7 @@ fn verdicts_by_kind(rt: HostRuntime) -> Result<(), Fail> {
 
 // How many of the counts are not 0.
 fn marked(counts: &[u32]) -> usize {
-    let mut n: usize = 0;
-    for count in counts {
-        if *count != 0 {
-            n = n.saturating_add(1);
-        }
-    }
-    n
+    counts.iter().filter(|count| **count != 0).count()
 }
 
 // The small net whose transition 1 keeps the channel, under a claim of each kind: whether it is accepted, the cap
@@ -169,13 +164,8 @@ fn caps_of_a_channel_that_is_kept(rt: HostRuntime) -> Result<(), Fail> {
         let file = changed(rt.alloc(), 63, 73, claim)?;
         let net = net_of(rt.alloc(), file.as_slice())?;
         let mut lent = Lent::new();
-        let mut memory = lent.workspace();
-        assert_eq!(rt;
-            cap_of(cap_by_kind(&net, 0, 64, &mut memory)),
-            want,
-            "{}",
-            claim
-        );
+        let mut judge = lent.judge(&net);
+        assert_eq!(rt; cap_of(judge.cap_by_kind(0, 64)), want, "{}", claim);
         assert_eq!(rt;
             (marked(&lent.before), marked(&lent.after)),
             (counts, counts),
@@ -193,8 +183,8 @@ fn a_channel_that_is_kept(rt: HostRuntime) -> Result<(), Fail> {
         let file = changed(rt.alloc(), 63, 73, claim)?;
         let net = net_of(rt.alloc(), file.as_slice())?;
         let mut lent = Lent::new();
-        let mut memory = lent.workspace();
-        let outcome = judge_by_kind(&net, 0, &mut memory);
+        let mut judge = lent.judge(&net);
+        let outcome = judge.judge_by_kind(0);
         assert_eq!(rt;
             (
                 lent.codes[0],
@@ -248,11 +238,11 @@ fn siphons_and_traps_in_a_survey(rt: HostRuntime) -> Result<(), Fail> {
     let file = joined(rt.alloc(), &[TAKES_AND_RETURNS])?;
     let net = net_of(rt.alloc(), file.as_slice())?;
     let mut lent = Lent::new();
-    let mut memory = lent.workspace();
+    let mut judge = lent.judge(&net);
     let mut places: [Outcome; 9] = [Ok(9); 9];
     let mut sheet = LentList::new(&mut places);
     assert!(rt; sheet.push(Ok(8)).is_ok());
-    assert!(rt; survey(&net, &mut memory, &mut sheet).is_ok());
+    assert!(rt; judge.survey(&mut sheet).is_ok());
     assert_eq!(rt; sheet.get(0), Some(Ok(8)));
     for (i, accepted) in RETURNS.iter().enumerate() {
         let want = if *accepted { Ok(1) } else { broken(0, [0; 4]) };
@@ -281,32 +271,28 @@ fn a_survey_measures_first(rt: HostRuntime) -> Result<(), Fail> {
     let mut after = [7; CELLS];
     let mut places: [Outcome; 6] = [Ok(9); 6];
     let mut sheet = LentList::new(&mut places);
-    let mut memory = Workspace {
+    let mut judge = Judge {
+        net: &net,
         codes: &mut codes,
         before: &mut before,
         after: &mut after,
     };
     // seven places are wanted
-    assert_eq!(rt; refusal(survey(&net, &mut memory, &mut sheet)), 22);
+    assert_eq!(rt; number(judge.survey(&mut sheet)), 22);
     // without claims nothing is written, but the memory is measured
-    assert_eq!(rt; refusal(survey(&empty, &mut memory, &mut sheet)), 0);
-    let mut memory = Workspace {
+    judge.net = &empty;
+    assert_eq!(rt; number(judge.survey(&mut sheet)), 0);
+    let mut judge = Judge {
+        net: &net,
         codes: &mut short,
         before: &mut before,
         after: &mut after,
     };
-    assert_eq!(rt; refusal(survey(&net, &mut memory, &mut sheet)), 11);
-    assert_eq!(rt; refusal(survey(&empty, &mut memory, &mut sheet)), 11);
+    assert_eq!(rt; number(judge.survey(&mut sheet)), 11);
+    judge.net = &empty;
+    assert_eq!(rt; number(judge.survey(&mut sheet)), 11);
     assert_eq!(rt; (sheet.len(), codes[0], before[0], after[0]), (0, 7, 7, 7));
     Ok(())
-}
-
-// The number of a fault, 0 for none.
-fn refusal(done: Result<(), Fault>) -> u8 {
-    match done {
-        Ok(()) => 0,
-        Err(fault) => fault.number(),
-    }
 }
 
 // A cap: a number, none for unbounded, or the number of a fault.
@@ -320,8 +306,8 @@ fn cap_of(most: Result<Option<u64>, Fault>) -> Cap {
 fn first_cap(heap: Global, file: &[u8], cell: usize) -> Result<Cap, ReadError> {
     let net = net_of(heap, file)?;
     let mut lent = Lent::new();
-    let mut memory = lent.workspace();
-    Ok(cap_of(cap_by_kind(&net, 0, cell, &mut memory)))
+    let mut judge = lent.judge(&net);
+    Ok(cap_of(judge.cap_by_kind(0, cell)))
 }
 
 // The small net with the bytes from one place up to 73 replaced, a cell, and its cap.
@@ -424,19 +410,16 @@ fn check_refused(
     let mut codes = [7; 1025];
     let mut before = [7; 1025];
     let mut after = [7; 1025];
-    let mut memory = Workspace {
+    let mut judge = Judge {
+        net,
         codes: &mut codes[0..lengths[0].min(1025)],
         before: &mut before[0..lengths[1].min(1025)],
         after: &mut after[0..lengths[2].min(1025)],
     };
-    assert_eq!(rt;
-        cap_of(cap_by_kind(net, claim, cell, &mut memory)),
-        Err(number),
-        "{at}"
-    );
+    assert_eq!(rt; cap_of(judge.cap_by_kind(claim, cell)), Err(number), "{at}");
     if number < 13 {
         assert_eq!(rt;
-            judge_by_kind(net, claim, &mut memory).map_err(|fault| fault.number()),
+            judge.judge_by_kind(claim).map_err(|fault| fault.number()),
             Err(number),
             "{at}"
         );
@@ -470,11 +453,11 @@ fn refusals_leave_the_memory(rt: HostRuntime) -> Result<(), Fail> {
 #[test]
 fn under_a_given_domain(rt: HostRuntime) -> Result<(), Fail> {
     let mut lent = Lent::new();
-    let mut memory = lent.workspace();
     // a channel that is kept; the kind of the claim plays no part
     let kept = changed(rt.alloc(), 63, 73, "0A050000")?;
     let net = net_of(rt.alloc(), kept.as_slice())?;
-    match judge(&net, 0, &Equal, &mut memory) {
+    let mut judge = lent.judge(&net);
+    match judge.judge(0, &Equal) {
         Ok(
             Err(
                 Breach {
@@ -491,16 +474,17 @@ fn under_a_given_domain(rt: HostRuntime) -> Result<(), Fail> {
         }
         _ => return Err(Fail::new("not broken")),
     }
-    assert!(rt; matches!(judge(&net, 0, &Siphon, &mut memory), Ok(Ok(4))));
-    assert_eq!(rt; cap_of(cap(&net, 0, 64, &Siphon, &mut memory)), Ok(None));
-    assert_eq!(rt; cap_of(cap(&net, 0, 64, &Equal, &mut memory)), Err(16));
+    assert!(rt; matches!(judge.judge(0, &Siphon), Ok(Ok(4))));
+    assert_eq!(rt; cap_of(judge.cap(0, 64, &Siphon)), Ok(None));
+    assert_eq!(rt; cap_of(judge.cap(0, 64, &Equal)), Err(16));
     // a code that is no weight of the domain
     let two = changed(rt.alloc(), 73, 85, "0C0000FFFFFFFE")?;
     let net = net_of(rt.alloc(), two.as_slice())?;
-    memory.before[3] = 9;
-    assert!(rt; matches!(judge(&net, 0, &Siphon, &mut memory), Err(Fault::NoWeight)));
-    assert_eq!(rt; cap_of(cap(&net, 0, 0, &Siphon, &mut memory)), Err(14));
-    assert_eq!(rt; cap_of(cap(&net, 0, 0, &Equal, &mut memory)), Err(15));
+    lent.before[3] = 9;
+    let mut judge = lent.judge(&net);
+    assert!(rt; matches!(judge.judge(0, &Siphon), Err(Fault::NoWeight)));
+    assert_eq!(rt; cap_of(judge.cap(0, 0, &Siphon)), Err(14));
+    assert_eq!(rt; cap_of(judge.cap(0, 0, &Equal)), Err(15));
     assert_eq!(rt; (lent.codes[0], lent.codes[1], lent.before[3]), (-2, 0, 9));
     Ok(())
 }
@@ -516,15 +500,9 @@ fn many_tokens_weigh_exactly(rt: HostRuntime) -> Result<(), Fail> {
         "0900 32 3300210100 32 3300210100 3300210100 0A010000 0B00FFF0BDC0 0F",
     )?;
     let net = net_of(rt.alloc(), file.as_slice())?;
-    let mut codes = [7; CELLS];
-    let mut counts = [7; CELLS];
-    let mut after = [7; CELLS];
-    let mut memory = Workspace {
-        codes: &mut codes,
-        before: &mut counts,
-        after: &mut after,
-    };
-    match judge(&net, 0, &Equal, &mut memory) {
+    let mut lent = Lent::new();
+    let mut judge = lent.judge(&net);
+    match judge.judge(0, &Equal) {
         Ok(
             Err(
                 Breach {
@@ -536,6 +514,6 @@ fn many_tokens_weigh_exactly(rt: HostRuntime) -> Result<(), Fail> {
         ) => { assert_eq!(rt; (firing.transition, before, after), (0, 0, -65_535_000_000)) }
         _ => return Err(Fail::new("not broken")),
     }
-    assert_eq!(rt; (marked(&counts), after[0]), (0, 65535));
+    assert_eq!(rt; (marked(&lent.before), lent.after[0]), (0, 65535));
     Ok(())
 }

@@ -4,6 +4,7 @@ ghost use Rattle.cases.specs.Digits.{hex_digit};
 
 use net::{Net, ReadError, read};
 use std::alloc::{AllocError, Global};
+use term::Fault;
 
 // Two handsets share one channel. Place 0 is quiet, 1 is sending, 2 is the free channel; transition 0 begins to
 // send, transition 1 ends it and gives the channel back.
@@ -82,4 +83,9 @@ pub fn net_of(heap: Global, file: &[u8]) -> Result<Net, ReadError> {
     let mut net = Net::new(heap)?;
     read(&mut net, file)?;
     Ok(net)
+}
+
+// The number of a refusal, 0 where there is none.
+pub(crate) fn number(answer: Result<(), Fault>) -> u8 {
+    answer.err().map_or(0, |fault| fault.number())
 }

@@ -1,5 +1,5 @@
 // Recordings: what they write, where they are full, and what their traces do.
-use crate::nets::{SMALL, joined, net_of};
+use crate::nets::{SMALL, joined, net_of, number};
 use crate::traces::{Left, QUIET, SENDING, check_replay};
 use std::process::Abort;
 use std::test::Fail;
@@ -20,11 +20,6 @@ const OTHER: Command = Command::Fire {
     transition: 0xFF,
     mode: [0x4F, 2, 0x40, 0xFE],
 };
-
-// The number of a refusal, 0 where there is none.
-fn number(answer: Result<(), Fault>) -> u8 {
-    answer.err().map_or(0, |fault| fault.number())
-}
 
 // A recording that was just opened.
 fn opened(memory: &[u8]) -> Result<OpenRecording, Fail> {

@@ -6,13 +6,20 @@ use Rattle.domain.specs.declared.kind.Kind.{Kind}
 use Rattle.domain.specs.declared.kind.Kind.TheVariants.{Equal, NeverRises, NeverFalls, Modulo, Trap, Siphon}
 
 -- the number that a kind has in a file, and the modulus beside it
+abbrev pub kind_number : Kind → ℕ
+kind_number Equal = 1
+kind_number NeverRises = 2
+kind_number NeverFalls = 3
+kind_number (Modulo m) = 4
+kind_number Trap = 5
+kind_number Siphon = 6
+
+abbrev pub kind_modulus : Kind → ℕ
+kind_modulus (Modulo m) = m.k
+kind_modulus x = 0
+
 abbrev pub Numbered : Kind → ℕ → ℕ → Type 0
-Numbered Equal n k = (n ≡ 1) × (k ≡ 0)
-Numbered NeverRises n k = (n ≡ 2) × (k ≡ 0)
-Numbered NeverFalls n k = (n ≡ 3) × (k ≡ 0)
-Numbered (Modulo m) n k = (n ≡ 4) × (k ≡ m.k)
-Numbered Trap n k = (n ≡ 5) × (k ≡ 0)
-Numbered Siphon n k = (n ≡ 6) × (k ≡ 0)
+Numbered x n k = (n ≡ kind_number x) × (k ≡ kind_modulus x)
 
 -- the answer is the kind of this number and modulus, or that there is none
 abbrev pub KindAt : ℕ → ℕ → Option Kind → Type 0

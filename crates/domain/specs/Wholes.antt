@@ -27,17 +27,18 @@ pub record WholeOrder (rel : ℤ → ℤ → Type 0) : Type 0 where
   pub plus : (u v w : ℤ) → rel v w → rel (u +ℤ v) (u +ℤ w)
   pub down : (v w : ℤ) → rel v w → w ≤ℤ v
 
-pub whole_laws : {rel : ℤ → ℤ → Type 0} → WholeOrder rel → Laws (whole rel)
-whole_laws o = record {
+pub whole_laws : (rel : ℤ → ℤ → Type 0) → ((v : ℤ) → rel v v) → ((u v w : ℤ) → rel u v → rel v w → rel u w)
+    → ((u v w : ℤ) → rel v w → rel (u +ℤ v) (u +ℤ w)) → Laws (whole rel)
+whole_laws rel r t m = record {
   nil_holds = tt;
   plus_holds = λ u v _ _. tt;
   weight_holds = λ c. tt;
   assoc = λ u v w _ _ _. +ℤ_assoc u v w;
   comm = λ u v _ _. +ℤ_comm u v;
   neutral = λ v _. +ℤ_idl v;
-  rel_refl = λ v _. o.same v;
-  rel_trans = λ u v w _ _ _. o.trans u v w;
-  rel_plus = λ u v w _ _ _. o.plus u v w;
+  rel_refl = λ v _. r v;
+  rel_trans = λ u v w _ _ _. t u v w;
+  rel_plus = λ u v w _ _ _. m u v w;
   code_zero = refl;
   weight_zero = refl;
   no_weight = no_weight;
@@ -45,6 +46,9 @@ whole_laws o = record {
   size_plus = λ u v _ _. size_plus u v;
   size_weight = size_weight;
 }
+
+pub order_laws : {rel : ℤ → ℤ → Type 0} → WholeOrder rel → Laws (whole rel)
+order_laws {rel} o = whole_laws rel o.same o.trans o.plus
 
 unsigned_abs_neg : (m : ℕ) → unsigned_abs (neg_ℤ (pos m)) ≡ m
 unsigned_abs_neg zero = refl
@@ -65,10 +69,10 @@ pub never_rises_relates : WholeOrder (λ v w. w ≤ℤ v)
 never_rises_relates = record { same = λ v. omega (arith, ints); trans = λ u v w p q. omega (arith, ints); plus = λ u v w p. omega (arith, ints); down = λ v w p. p }
 
 pub equal_laws : Laws equal
-equal_laws = whole_laws equal_relates
+equal_laws = order_laws equal_relates
 
 pub never_rises_laws : Laws never_rises
-never_rises_laws = whole_laws never_rises_relates
+never_rises_laws = order_laws never_rises_relates
 
 -- the program's product and sum are the exact ones where they are small
 module _ (v : ℤ) {w m : ℤ} {n : ℕ} (fw : FitsSigned w64 w) (fm : FitsSigned w64 m) (e : m ≡ pos n) (h : unsigned_abs v + n * unsigned_abs w ≤ largest_sum) where

@@ -13,6 +13,7 @@ mod row;
 mod siphon;
 mod sums;
 mod turned;
+mod weights;
 mod whole;
 
 pub use equal::Equal;
@@ -24,6 +25,7 @@ use row::counted;
 pub use siphon::Siphon;
 pub use sums::{add_weight, laws_give};
 pub use turned::Turned;
+pub use weights::Weights;
 pub use whole::WholeRelation;
 
 // The laws are what a judge rests on: it knows of no domain in particular.

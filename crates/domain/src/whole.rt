@@ -2,7 +2,7 @@
 ghost use Rattle.std.specs.Prelude.{◌≡◌, ℕ, ◌<◌, ℤ, pos, length, slice_index_or};
 ghost use Rattle.domain.specs.Domains.{Codes, equal, whole, whole_code, whole_weight};
 ghost use Rattle.domain.specs.Meaning.{Added, Tells, row_of};
-ghost use Rattle.domain.specs.Wholes.{WholeOrder, whole_laws};
+ghost use Rattle.domain.specs.Wholes.{WholeOrder, order_laws};
 
 use crate::WeightDomain;
 use crate::row::counted;
@@ -27,7 +27,7 @@ impl<R: WholeRelation> WeightDomain for R {
 
     ghost meaning = { λ r. whole (R.related r) };
 
-    ghost lawful = { λ r. whole_laws (R.orders r) };
+    ghost lawful = { λ r. order_laws (R.orders r) };
 
     fn is_weight(&self, code: i32) -> bool {
         is_code(code)

@@ -1,8 +1,7 @@
 -- The commands of a net file as plain values, and their numbers.
 use Rattle.std.specs.Prelude.{ℕ, cond, ◌==◌, List, [], ◌∷◌, ℤ, length, Ok, Err, Result, slice_index}
 use Rattle.std.specs.Borrow.{Bor}
-use Rattle.domain.specs.declared.kind.Kind.{Kind}
-use Rattle.domain.specs.declared.kind.Kind.TheVariants as kind
+use Rattle.domain.specs.Kinds.{kind_modulus, kind_number}
 use Rattle.term.specs.declared.fault.FileFault.{FileFault}
 use Rattle.term.specs.declared.signature.Arguments.{Arguments}
 use Rattle.term.specs.declared.signature.Arguments.TheVariants as arguments
@@ -29,23 +28,6 @@ pub data Said : Type 0 where
 pub data Read : Type 0 where
   said : Said → List ℕ → Read
   fault : FileFault → Read
-
--- the number of a kind in a file, and the modulus beside it
-abbrev pub kind_number : Kind → ℕ
-kind_number kind.Equal = 1
-kind_number kind.NeverRises = 2
-kind_number kind.NeverFalls = 3
-kind_number (kind.Modulo m) = 4
-kind_number kind.Trap = 5
-kind_number kind.Siphon = 6
-
-abbrev pub kind_modulus : Kind → ℕ
-kind_modulus kind.Equal = 0
-kind_modulus kind.NeverRises = 0
-kind_modulus kind.NeverFalls = 0
-kind_modulus (kind.Modulo m) = m.k
-kind_modulus kind.Trap = 0
-kind_modulus kind.Siphon = 0
 
 -- how many arguments there are, and their sorts, 0 where there is none
 abbrev pub arity : Arguments → ℕ

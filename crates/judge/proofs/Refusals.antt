@@ -10,9 +10,9 @@ use Rattle.net.specs.declared.net.Net.{Net}
 use Rattle.net.specs.Nets.{IsKind, claim_of}
 use Rattle.judge.specs.Calls.{Called, Fits, Memory, SameLoans, lent}
 use Rattle.judge.specs.Kinds.{By, ByKind}
-use Rattle.judge.specs.declared.workspace.Workspace.{Workspace}
+use Rattle.judge.specs.declared.judging.Judge.{Judge}
 
-pub still_fits : (v w : Workspace) → SameLoans v w → Fits (lent v) → Fits (lent w)
+pub still_fits : (v w : Judge) → SameLoans v w → Fits (lent v) → Fits (lent w)
 still_fits v w s f = record { codes_long = s.codes.long ∙ f.codes_long; before_long = s.before.long ∙ f.before_long; after_long = s.after.long ∙ f.after_long }
 
 module _ (n : Net) (claim : ℕ) (m k : Memory) (fits : Fits m) (there : claim < vec_len n.claims) where

@@ -8,7 +8,7 @@ use Rattle.net.specs.declared.net.Net.{Net}
 use Rattle.net.specs.Nets.{Tallied, codes_of, given, taken}
 use Rattle.judge.specs.Judged.{Judged, Verdict}
 use Rattle.judge.specs.Theorem.{Exactly, Keeps, Right}
-use Rattle.judge.specs.declared.workspace.Workspace.{Workspace}
+use Rattle.judge.specs.declared.judging.Judge.{Judge}
 
 -- memory for 1,024 codes and twice 1,024 counts
 pub record Measured (codes : List ℤ) (before after : List ℕ) : Type 0 where
@@ -42,8 +42,8 @@ pub record Memory : Type 0 where
   pub before : List ℕ
   pub after : List ℕ
 
--- what a workspace holds
-abbrev pub lent : Workspace → Memory
+-- what the memory lent to a judge holds
+abbrev pub lent : Judge → Memory
 lent w = record { codes = w.codes.now; before = w.before.now; after = w.after.now }
 
 abbrev pub Fits : Memory → Type 0
@@ -54,8 +54,9 @@ pub record SameLoan {A : Type 0} (v w : MutBor (List A)) : Type 0 where
   pub named : w.ghost_name ≡ v.ghost_name
   pub long : length w.now ≡ length v.now
 
--- a call leaves a workspace its three loans
-pub record SameLoans (v w : Workspace) : Type 0 where
+-- a call leaves a judge its net and its three loans
+pub record SameLoans (v w : Judge) : Type 0 where
+  pub net : w.net ≡ v.net
   pub codes : SameLoan v.codes w.codes
   pub before : SameLoan v.before w.before
   pub after : SameLoan v.after w.after

@@ -7,7 +7,7 @@ use Rattle.domain.specs.declared.kind.Kind.TheVariants as kind
 use Rattle.term.specs.declared.fault.Fault.{Fault}
 use Rattle.term.specs.declared.fault.Fault.TheVariants as fault
 use Rattle.net.specs.declared.net.Net.{Net}
-use Rattle.net.specs.Nets.{codes_of}
+use Rattle.net.specs.Nets.{HasCell, codes_of}
 use Rattle.judge.specs.declared.verdict.Breach.{Breach}
 use Rattle.judge.specs.Calls.{AllWeigh, Begun, Called, Fits, Memory}
 
@@ -17,28 +17,28 @@ AllPlain d plain codes = (c : ℕ) → c < length codes → plain (d.weight (sli
 
 -- whether a call for a cap can begin: as a call of judge, and the net has the cell
 abbrev pub BegunAt : Net → ℕ → ℕ → Memory → Result (Unit {0}) Fault → Type 0
-BegunAt n claim cell m (Ok u) = Fits m × (claim < vec_len n.claims) × (cell < 1024)
-BegunAt n claim cell m (Err fault.NoCell) = Fits m × (claim < vec_len n.claims)
+BegunAt n claim cell m (Ok u) = Fits m × (claim < vec_len n.claims) × HasCell n cell
+BegunAt n claim cell m (Err fault.NoCell) = Fits m × (claim < vec_len n.claims) × (HasCell n cell → ⊥)
 BegunAt n claim cell m (Err e) = Begun n claim m (Err e)
 
 -- what a call for a cap answers, from the memory m to the memory k: a cap only by an accepted claim with plain weights
-abbrev pub Asked : {V : Type 0} → Meaning V → (V → Type 0) → Net → ℕ → Memory → Memory → Result (Option ℕ) Fault → Type 0
-Asked d plain n claim m k (Ok most) = AllPlain d plain k.codes × ((c : ℕ) × Called d n claim m k (Ok (Ok c)))
-Asked d plain n claim m k (Err fault.NoCell) = Fits m × (claim < vec_len n.claims) × (k ≡ m)
-Asked d plain n claim m k (Err fault.NotPlain) =
+abbrev pub Asked : {V : Type 0} → Meaning V → (V → Type 0) → Net → ℕ → ℕ → Memory → Memory → Result (Option ℕ) Fault → Type 0
+Asked d plain n claim cell m k (Ok most) = HasCell n cell × AllPlain d plain k.codes × ((c : ℕ) × Called d n claim m k (Ok (Ok c)))
+Asked d plain n claim cell m k (Err fault.NoCell) = Fits m × (claim < vec_len n.claims) × (HasCell n cell → ⊥) × (k ≡ m)
+Asked d plain n claim cell m k (Err fault.NotPlain) =
     Fits m × (claim < vec_len n.claims) × (k.codes ≡ codes_of n claim) × AllWeigh d k.codes × (AllPlain d plain k.codes → ⊥) × (k.before ≡ m.before) × (k.after ≡ m.after)
-Asked {V} d plain n claim m k (Err fault.NotAccepted) = AllPlain d plain k.codes × ((x : Breach V) × Called d n claim m k (Ok (Err x)))
-Asked d plain n claim m k (Err e) = Called d n claim m k (Err e)
+Asked {V} d plain n claim cell m k (Err fault.NotAccepted) = AllPlain d plain k.codes × ((x : Breach V) × Called d n claim m k (Ok (Err x)))
+Asked d plain n claim cell m k (Err e) = Called d n claim m k (Err e)
 
 -- the same by a kind that does not measure: never a cap
 abbrev pub Blind : Net → ℕ → ℕ → Memory → Memory → Result (Option ℕ) Fault → Type 0
 Blind n claim cell m k (Ok most) = ⊥
-Blind n claim cell m k (Err fault.NotPlain) = Fits m × (k.codes ≡ codes_of n claim) × (k.before ≡ m.before) × (k.after ≡ m.after)
+Blind n claim cell m k (Err fault.NotPlain) = Fits m × HasCell n cell × (k.codes ≡ codes_of n claim) × (k.before ≡ m.before) × (k.after ≡ m.after)
 Blind n claim cell m k (Err e) = BegunAt n claim cell m (Err e) × (k ≡ m)
 
 -- the same by kind
 abbrev pub AskedByKind : Kind → Net → ℕ → ℕ → Memory → Memory → Result (Option ℕ) Fault → Type 0
-AskedByKind kind.Equal n claim cell m k r = Asked equal (λ v. pos 0 ≤ℤ v) n claim m k r
-AskedByKind kind.NeverRises n claim cell m k r = Asked never_rises (λ v. pos 0 ≤ℤ v) n claim m k r
-AskedByKind kind.Siphon n claim cell m k r = Asked siphon (λ v. Unit {0}) n claim m k r
+AskedByKind kind.Equal n claim cell m k r = Asked equal (λ v. pos 0 ≤ℤ v) n claim cell m k r
+AskedByKind kind.NeverRises n claim cell m k r = Asked never_rises (λ v. pos 0 ≤ℤ v) n claim cell m k r
+AskedByKind kind.Siphon n claim cell m k r = Asked siphon (λ v. Unit {0}) n claim cell m k r
 AskedByKind x n claim cell m k r = Blind n claim cell m k r

@@ -2,13 +2,10 @@
 #![tactic(auto)]
 
 mod caps;
+mod judging;
 mod kind;
 mod modes;
 mod verdict;
-mod workspace;
 
-pub use caps::cap;
-pub use kind::{cap_by_kind, judge_by_kind, survey};
-pub use modes::judge;
+pub use judging::Judge;
 pub use verdict::{Breach, Outcome, Verdict};
-pub use workspace::Workspace;

@@ -3,130 +3,127 @@ ghost use Rattle.domain.specs.Meaning.{Tells};
 ghost use Rattle.judge.specs.Calls.{AllWeigh, Begun, Called, Fits, Left, Loaded, SameLoans, VerdictOn, lent};
 ghost use Rattle.judge.specs.Judged.{Judged, JudgedModes};
 
+use crate::judging::Judge;
 use crate::verdict::{Breach, Verdict};
-use crate::workspace::Workspace;
-use domain::WeightDomain;
+use domain::{WeightDomain, Weights};
 use format::Direction;
-use net::{Firing, Net};
+use net::Firing;
 use term::Fault;
 
-// Judges the modes of one transition, the first variable slowest.
-fn judge_modes<D: WeightDomain>(net: &Net, t: usize, d: &D, codes: &[i32]) -> Verdict<D::Value>
-    ensures { JudgedModes (D.meaning d.now) codes.now net.now t result }
-{
-    let mut seen: u32 = 0;
-    for i in 0..net.modes(t) {
-        let firing = Firing {
-            transition: t,
-            mode: net.mode(t, i),
+impl<'n, 'm> Judge<'n, 'm> {
+    // Judges the modes of one transition, the first variable slowest.
+    fn judge_modes<D: WeightDomain>(&self, t: usize, d: &D) -> Verdict<D::Value>
+        ensures { JudgedModes (D.meaning d.now) self.now.codes.now self.now.net.now t result }
+    {
+        let net = self.net;
+        let weights = Weights {
+            domain: d,
+            codes: self.codes(),
         };
-        if net.guard(firing) {
-            let (before, after) = net.sums(firing, d, codes);
-            if !d.relates(&before, &after) {
-                return Err(Breach {
-                    firing,
-                    before,
-                    after,
-                });
+        let mut seen: u32 = 0;
+        for i in 0..net.modes(t) {
+            let firing = Firing {
+                transition: t,
+                mode: net.mode(t, i),
+            };
+            if net.guard(firing) {
+                let (before, after) = net.sums(firing, &weights);
+                if !d.relates(&before, &after) {
+                    return Err(Breach {
+                        firing,
+                        before,
+                        after,
+                    });
+                }
+                seen = seen.saturating_add(1);
             }
-            seen = seen.saturating_add(1);
+        }
+        Ok(seen)
+    }
+
+    // Judges all transitions in the order of the file.
+    fn judge_all<D: WeightDomain>(&self, d: &D) -> Verdict<D::Value>
+        ensures { Judged (D.meaning d.now) self.now.codes.now self.now.net.now result }
+    {
+        let mut seen: u32 = 0;
+        for t in 0..self.net.transitions() {
+            seen = seen.saturating_add(self.judge_modes(t, d)?);
+        }
+        Ok(seen)
+    }
+
+    // Whether every code is a weight.
+    fn are_weights<D: WeightDomain>(&self, d: &D) -> bool
+        ensures { Tells result (AllWeigh (D.meaning d.now) self.now.codes.now) }
+    {
+        self.codes().iter().all(|code| d.is_weight(*code))
+    }
+
+    // Leaves t− and t+ of the mode named in the counts, and 0 where none is.
+    fn leave<V: Drop>(&mut self, verdict: &Verdict<V>)
+        requires { Fits (lent self.old) }
+        ensures left { Left self.old.net.now verdict.now self.new.before.now self.new.after.now }
+        ensures codes { self.new.codes.now ≡ self.old.codes.now }
+        ensures same { SameLoans self.old self.new }
+    {
+        self.before.fill(0);
+        self.after.fill(0);
+        if let Err(breach) = verdict {
+            self.net.count(breach.firing, Direction::In, self.before);
+            self.net.count(breach.firing, Direction::Out, self.after);
         }
     }
-    Ok(seen)
-}
 
-// Judges all transitions in the order of the file.
-fn judge_all<D: WeightDomain>(net: &Net, d: &D, codes: &[i32]) -> Verdict<D::Value>
-    ensures { Judged (D.meaning d.now) codes.now net.now result }
-{
-    let mut seen: u32 = 0;
-    for t in 0..net.transitions() {
-        seen = seen.saturating_add(judge_modes(net, t, d, codes)?);
+    // Judges the codes in memory.
+    pub(crate) fn judge_codes<D: WeightDomain>(&mut self, d: &D) -> Verdict<D::Value>
+        requires { Fits (lent self.old) }
+        ensures verdict { VerdictOn (D.meaning d.now) self.old.codes.now self.old.net.now result self.new.before.now self.new.after.now }
+        ensures codes { self.new.codes.now ≡ self.old.codes.now }
+        ensures same { SameLoans self.old self.new }
+    {
+        let verdict = self.judge_all(d);
+        self.leave(&verdict);
+        verdict
     }
-    Ok(seen)
-}
 
-// Whether every code is a weight.
-fn are_weights<D: WeightDomain>(d: &D, codes: &[i32]) -> bool
-    ensures { Tells result (AllWeigh (D.meaning d.now) codes.now) }
-{
-    codes.iter().all(|code| d.is_weight(*code))
-}
-
-// Leaves t− and t+ of the mode named in the counts, and 0 where none is.
-fn leave<V: Drop>(net: &Net, verdict: &Verdict<V>, memory: &mut Workspace)
-    requires { Fits (lent memory.old) }
-    ensures left { Left net.now verdict.now memory.new.before.now memory.new.after.now }
-    ensures codes { memory.new.codes.now ≡ memory.old.codes.now }
-    ensures same { SameLoans memory.old memory.new }
-{
-    memory.before.fill(0);
-    memory.after.fill(0);
-    if let Err(breach) = verdict {
-        net.count(breach.firing, Direction::In, memory.before);
-        net.count(breach.firing, Direction::Out, memory.after);
+    // Whether a call can begin.
+    pub(crate) fn begin(&self, claim: usize) -> Result<(), Fault>
+        ensures { Begun self.now.net.now claim (lent self.now) result }
+    {
+        if !self.is_measured() {
+            return Err(Fault::Memory);
+        }
+        if claim >= self.net.claims() {
+            return Err(Fault::NoClaim);
+        }
+        Ok(())
     }
-}
 
-// Judges the codes in memory.
-pub(crate) fn judge_codes<D: WeightDomain>(
-    net: &Net,
-    d: &D,
-    memory: &mut Workspace,
-) -> Verdict<D::Value>
-    requires { Fits (lent memory.old) }
-    ensures verdict { VerdictOn (D.meaning d.now) memory.old.codes.now net.now result memory.new.before.now memory.new.after.now }
-    ensures codes { memory.new.codes.now ≡ memory.old.codes.now }
-    ensures same { SameLoans memory.old memory.new }
-{
-    let verdict = judge_all(net, d, memory.codes());
-    leave(net, &verdict, memory);
-    verdict
-}
-
-// Whether a call can begin.
-pub(crate) fn begin(net: &Net, claim: usize, memory: &Workspace) -> Result<(), Fault>
-    ensures { Begun net.now claim (lent memory.now) result }
-{
-    if !memory.is_measured() {
-        return Err(Fault::Memory);
+    // Writes the codes of a claim, and refuses those that are no weights.
+    pub(crate) fn load_codes<D: WeightDomain>(&mut self, claim: usize, d: &D) -> Result<(), Fault>
+        requires fits { Fits (lent self.old) }
+        requires there { claim < vec_len self.old.net.now.claims }
+        ensures loaded { Loaded (D.meaning d.now) self.old.net.now claim (lent self.old) (lent self.new) result }
+        ensures same { SameLoans self.old self.new }
+    {
+        self.net.write_codes(claim, self.codes);
+        if !self.are_weights(d) {
+            return Err(Fault::NoWeight);
+        }
+        Ok(())
     }
-    if claim >= net.claims() {
-        return Err(Fault::NoClaim);
-    }
-    Ok(())
-}
 
-// Writes the codes of a claim, and refuses those that are no weights.
-pub(crate) fn load_codes<D: WeightDomain>(
-    net: &Net,
-    claim: usize,
-    d: &D,
-    memory: &mut Workspace,
-) -> Result<(), Fault>
-    requires fits { Fits (lent memory.old) }
-    requires there { claim < vec_len net.now.claims }
-    ensures loaded { Loaded (D.meaning d.now) net.now claim (lent memory.old) (lent memory.new) result }
-    ensures same { SameLoans memory.old memory.new }
-{
-    net.write_codes(claim, memory.codes);
-    if !are_weights(d, memory.codes()) {
-        return Err(Fault::NoWeight);
+    // Judges a claim under a domain that the caller gives.
+    pub fn judge<D: WeightDomain>(
+        &mut self,
+        claim: usize,
+        d: &D,
+    ) -> Result<Verdict<D::Value>, Fault>
+        ensures called { Called (D.meaning d.now) self.old.net.now claim (lent self.old) (lent self.new) result }
+        ensures same { SameLoans self.old self.new }
+    {
+        self.begin(claim)?;
+        self.load_codes(claim, d)?;
+        Ok(self.judge_codes(d))
     }
-    Ok(())
-}
-
-// Judges a claim under a domain that the caller gives.
-pub fn judge<D: WeightDomain>(
-    net: &Net,
-    claim: usize,
-    d: &D,
-    memory: &mut Workspace,
-) -> Result<Verdict<D::Value>, Fault>
-    ensures called { Called (D.meaning d.now) net.now claim (lent memory.old) (lent memory.new) result }
-    ensures same { SameLoans memory.old memory.new }
-{
-    begin(net, claim, memory)?;
-    load_codes(net, claim, d, memory)?;
-    Ok(judge_codes(net, d, memory))
 }

@@ -4,6 +4,7 @@ use Rattle.std.specs.Option.{option_map_or}
 use Rattle.domain.specs.declared.kind.Kind.{Kind}
 use Rattle.domain.specs.declared.kind.Kind.TheVariants.{Equal}
 use Rattle.format.specs.declared.command.Direction.{Direction}
+use Rattle.format.specs.Format.{place_size}
 use Rattle.term.specs.Meaning.{Bag, Sig, bag_said, count, operation_said, value}
 use Rattle.term.specs.Prefix.{bag_at, term_at}
 use Rattle.term.specs.Worth.{Marking, most, on_place}
@@ -94,6 +95,11 @@ pub record Mode (ns m : List ℕ) : Type 0 where
 -- a marking is added to counts, each held at the largest number of 32 bits
 abbrev pub Tallied : List ℕ → List ℕ → Marking → Type 0
 Tallied before after m = (c : ℕ) → c < length before → slice_index after c ≡ min (slice_index before c + m c) (2 ^ 32 - 1)
+
+-- the cell stands for a place of the net and an element of that place's sort
+pub record HasCell (n : Net) (cell : ℕ) : Type 0 where
+  pub within : cell < 1024
+  pub element : cell % 64 < place_size (vec_items n.sizes) (vec_items n.places) (cell / 64)
 
 abbrev pub no_claim : Claim
 no_claim = record { kind = Equal; codes = [] }

@@ -5,7 +5,7 @@ mod report;
 
 use anyhow::anyhow;
 use bench::Firing;
-use judge::{Outcome, Workspace, survey};
+use judge::{Judge, Outcome};
 use lent::list::LentList;
 use net::{CELLS, Net, ReadError, read};
 use report::{ClaimLine, FaultLine, ReplayLine};
@@ -26,14 +26,15 @@ fn add_claims(net: &Net, text: &mut String) -> Result<(), AllocError> {
     let mut codes = [0i32; CELLS];
     let mut before = [0u32; CELLS];
     let mut after = [0u32; CELLS];
-    let mut memory = Workspace {
+    let mut judge = Judge {
+        net,
         codes: &mut codes,
         before: &mut before,
         after: &mut after,
     };
     let mut outcomes: [Outcome; 16] = [Ok(0); 16];
     let mut sheet = LentList::new(&mut outcomes);
-    let _ = survey(net, &mut memory, &mut sheet);
+    let _ = judge.survey(&mut sheet);
     for (claim, outcome) in sheet.as_slice().iter().enumerate() {
         let outcome = *outcome;
         writeln!(text, "{}", ClaimLine { claim, outcome })?;

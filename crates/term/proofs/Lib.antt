@@ -2,6 +2,7 @@ pub mod BagSteps
 pub mod Cuts
 pub mod Loads
 pub mod Lookups
+pub mod Placed
 pub mod Shapes
 pub mod Steps
 pub mod Sums

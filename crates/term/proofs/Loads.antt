@@ -1,16 +1,12 @@
 -- A bag has few tokens for its bytes, whatever the bytes are.
-use Rattle.std.proofs.Common.{◌≡◌, ℕ, zero, suc, ◌+◌, ◌*◌, ◌<◌, ◌≤◌, Bool, true, false, cond, List, length, get_or, drop, refl, arith, length-drop}
+use Rattle.std.proofs.Common.{◌≡◌, ℕ, zero, suc, ◌+◌, ◌*◌, ◌<◌, ◌≤◌, true, List, length, get_or, drop, arith, length-drop}
+use Rattle.std.proofs.lemmas.Bool.{cond_both}
 use Rattle.std.proofs.lemmas.Bool.Decides.{nat_tests}
 use Rattle.term.specs.Meaning.{Sig, operation}
 use Rattle.term.specs.declared.signature.Arguments.{Arguments}
 use Rattle.term.specs.declared.signature.Arguments.TheVariants as arguments
 use Rattle.term.specs.Prefix.{Read, ReadBag, applied, bag_at, begins, term_at}
 use Rattle.term.specs.Worth.{most}
-
--- whichever way a choice goes
-choose : {X : Type 0} (P : X → Type 0) (b : Bool) (x y : X) → (b ≡ true → P x) → (b ≡ false → P y) → P (cond b x y)
-choose P true x y p q = p refl
-choose P false x y p q = q refl
 
 some : (k n : ℕ) (bs : List ℕ) → begins k n bs ≡ true → 0 < length bs
 some k n bs e = grind (arith, nat_tests, e)
@@ -34,13 +30,13 @@ module _ (s : Sig) where
       let l3 = length-drop 3 bs in
       let after : (xs : List ℕ) → length xs ≤ length bs → length (p xs).1 ≤ length bs = λ xs h. let r = rest_short d xs in omega arith in
       let twice : (xs : List ℕ) → length xs ≤ length bs → length (p (p xs).1).1 ≤ length bs = λ xs h. after (p xs).1 (after xs h) in
-      choose P (begins 0x20 1 bs) _ _ (λ e. omega arith) (λ e1.
-      choose P (begins 0x21 2 bs) _ _ (λ e. omega arith) (λ e2.
-      choose P (begins 0x22 1 bs) _ _
+      cond_both (begins 0x20 1 bs) _ _ P (λ e. omega arith) (λ e1.
+      cond_both (begins 0x21 2 bs) _ _ P (λ e. omega arith) (λ e2.
+      cond_both (begins 0x22 1 bs) _ _ P
       (λ e. applied_short p (get_or bs 1 0) (operation s (get_or bs 1 0)).arguments (drop 2 bs) (length bs) (omega arith) after) (λ e3.
-      choose P (begins 0x23 1 bs) _ _ (λ e. twice (drop 2 bs) (omega arith)) (λ e4.
-      choose P (begins 0x24 0 bs) _ _ (λ e. after (drop 1 bs) (omega arith)) (λ e5.
-      choose P (begins 0x25 0 bs) _ _ (λ e. twice (drop 1 bs) (omega arith)) (λ e6. omega arith))))))
+      cond_both (begins 0x23 1 bs) _ _ P (λ e. twice (drop 2 bs) (omega arith)) (λ e4.
+      cond_both (begins 0x24 0 bs) _ _ P (λ e. after (drop 1 bs) (omega arith)) (λ e5.
+      cond_both (begins 0x25 0 bs) _ _ P (λ e. twice (drop 1 bs) (omega arith)) (λ e6. omega arith))))))
 
   -- at most 65,025 tokens for each byte
   pub few_tokens : (d : ℕ) (bs : List ℕ) → most (bag_at s d bs).0 + 65025 * length (bag_at s d bs).1 ≤ 65025 * length bs
@@ -52,7 +48,7 @@ module _ (s : Sig) where
       let q = bag_at s d in
       let l1 = length-drop 1 bs in
       let l2 = length-drop 2 bs in
-      choose P (begins 0x30 0 bs) _ _ (λ e. omega arith) (λ e1.
-      choose P (begins 0x31 0 bs) _ _ (λ e. let h = some 0x31 0 bs e in let r = rest_short d (drop 1 bs) in omega arith) (λ e2.
-      choose P (begins 0x32 0 bs) _ _ (λ e. let a = few_tokens d (drop 1 bs) in let b = few_tokens d (q (drop 1 bs)).1 in omega arith) (λ e3.
-      choose P (begins 0x33 1 bs) _ _ (λ e. let h = some 0x33 1 bs e in let r = rest_short d (drop 2 bs) in omega arith) (λ e4. omega arith))))
+      cond_both (begins 0x30 0 bs) _ _ P (λ e. omega arith) (λ e1.
+      cond_both (begins 0x31 0 bs) _ _ P (λ e. let h = some 0x31 0 bs e in let r = rest_short d (drop 1 bs) in omega arith) (λ e2.
+      cond_both (begins 0x32 0 bs) _ _ P (λ e. let a = few_tokens d (drop 1 bs) in let b = few_tokens d (q (drop 1 bs)).1 in omega arith) (λ e3.
+      cond_both (begins 0x33 1 bs) _ _ P (λ e. let h = some 0x33 1 bs e in let r = rest_short d (drop 2 bs) in omega arith) (λ e4. omega arith))))

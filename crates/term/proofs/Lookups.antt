@@ -1,8 +1,7 @@
 -- What is looked up in memory, and in what memory says.
-use Rattle.std.proofs.Common.{◌≡◌, ℕ, ◌<◌, List, length, map, get_or, Option, Some, None, sym, ap, ◌∙◌}
+use Rattle.std.proofs.Common.{◌≡◌, ℕ, List, get_or, Option, Some, None, sym, ap, ◌∙◌}
 use Rattle.std.specs.List.{slice_get}
 use Rattle.std.specs.Option.{option_map, unwrap_or}
-use Rattle.std.proofs.lemmas.List.{get_or-map, length-map}
 use Rattle.std.proofs.lemmas.Option.{get_or_from_slice_get, unwrap_or-slice_get}
 
 module _ {A B : Type 0} (f : A → B) where
@@ -12,10 +11,3 @@ module _ {A B : Type 0} (f : A → B) where
 
     pub absent : r ≡ None → get_or xs k d ≡ d
     absent is = sym (unwrap_or-slice_get xs k d) ∙ ap (λ o. unwrap_or o d) (sym e ∙ ap (option_map f) is)
-
-  module _ (xs : List A) (k : ℕ) (h : k < length xs) where
-    pub map_within : k < length (map f xs)
-    map_within = rw (length-map xs f) h
-
-    pub map_found : (x : A) (d : B) → x ≡ get_or xs k x → f x ≡ get_or (map f xs) k d
-    map_found x d is = ap f is ∙ sym (get_or-map f xs k x d h)

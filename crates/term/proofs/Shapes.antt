@@ -1,71 +1,117 @@
 -- The front of a term that passed the check, by its code.
-use Rattle.std.proofs.Common.{◌≡◌, ℕ, ◌-◌, ◌<◌, Bool, true, ◌&&◌, List, length, get_or, drop, refl, sym, ap, ◌∙◌, arith, lt-ltb, eq-eqb}
+use Rattle.std.proofs.Common.{◌≡◌, ℕ, suc, ◌-◌, ◌<◌, Bool, true, false, cond, ◌&&◌, eqb, ltb, leb, List, length, get_or, drop, refl, sym, ap, ◌∙◌, subst, arith, ltb-true, eqb-true}
+use Rattle.std.proofs.lemmas.Bool.{cond_both}
+use Rattle.std.proofs.lemmas.Bool.Decides.{nat_tests}
+use Rattle.term.specs.declared.fault.FileFault.{FileFault}
 use Rattle.term.specs.declared.signature.Arguments.{Arguments}
 use Rattle.term.specs.declared.signature.Arguments.TheVariants as arguments
+use Rattle.term.specs.Check.{Front, none, application_at, constant_at, equality_at, head_at, logic_at, variable_at}
+use Rattle.term.specs.Check as check
 use Rattle.term.specs.Meaning.{Operation, Sig, Term, variable, constant, apply, equal, negate, both, each, operation, size, sorted}
 use Rattle.term.specs.Prefix.{Read, applied, front, missing, one, term_at, two}
-use Rattle.term.specs.Shape.{Begun, Passed, Shape}
+use Rattle.term.specs.Shape.{Passed}
 use Rattle.term.proofs.Cuts.{shorter_by}
 use Rattle.term.proofs.Turns.{front_apply, front_both, front_constant, front_equal, front_negate, front_variable, turn}
 
 pub both_true : (a b : Bool) → a ≡ true → b ≡ true → (a && b) ≡ true
 both_true a b p q = rw (p, q)
 
-module _ (s : Sig) (vars : List ℕ) (want : ℕ) (bs r : List ℕ) where
-  pub shape_variable : 1 < length bs → get_or bs 0 0 ≡ 0x20 → get_or bs 1 0 < length vars → get_or vars (get_or bs 1 0) 0 ≡ want → r ≡ drop 2 bs → Shape s vars want bs arguments.None r
-  shape_variable h e v w q = record {
-    shorter = shorter_by 2 bs r q (omega arith) h;
-    begun = λ p. (variable (get_or bs 1 0), front_variable s p bs h e ∙ ap (λ x. (variable (get_or bs 1 0), x)) (sym q), both_true _ _ (lt-ltb _ _ v) (eq-eqb _ _ w));
-  }
+-- with the parts at r, each of its sort, the term that is read by p is of sort want
+abbrev pub Begun : Sig → List ℕ → ℕ → (List ℕ → Read) → Read → Arguments → List ℕ → Type 0
+Begun s vars want p read arguments.None r = (t : Term) × (read ≡ (t, r)) × (sorted s vars want t ≡ true)
+Begun s vars want p read (arguments.One a) r =
+    (f : Term → Term) × (read ≡ one p f r) × ((x : Term) → sorted s vars a x ≡ true → sorted s vars want (f x) ≡ true)
+Begun s vars want p read (arguments.Two a b) r =
+    (f : Term → Term → Term) × (read ≡ two p f r) × ((x y : Term) → sorted s vars a x ≡ true → sorted s vars b y ≡ true → sorted s vars want (f x y) ≡ true)
 
-  pub shape_constant : 2 < length bs → get_or bs 0 0 ≡ 0x21 → get_or bs 1 0 ≡ want → get_or bs 2 0 < size s (get_or bs 1 0) → r ≡ drop 3 bs → Shape s vars want bs arguments.None r
-  shape_constant h e w v q = record {
-    shorter = shorter_by 3 bs r q (omega arith) h;
-    begun = λ p. (constant (get_or bs 1 0) (get_or bs 2 0), front_constant s p bs h e ∙ ap (λ x. (constant (get_or bs 1 0) (get_or bs 2 0), x)) (sym q), both_true _ _ (eq-eqb _ _ w) (lt-ltb _ _ v));
-  }
+-- parts of the given sorts follow at r; with them the term is of sort want
+pub record Shape (s : Sig) (vars : List ℕ) (want : ℕ) (bs : List ℕ) (parts : Arguments) (r : List ℕ) : Type 0 where
+  pub shorter : length r < length bs
+  pub begun : (p : List ℕ → Read) → Begun s vars want p (front s p bs) parts r
 
-  module _ (h : 1 < length bs) (e : get_or bs 0 0 ≡ 0x22) (there : get_or bs 1 0 < length s.operations) (q : r ≡ drop 2 bs) where
-    abbrev o : Operation
-    o = operation s (get_or bs 1 0)
+module _ (s : Sig) (vars : List ℕ) (want : ℕ) (bs : List ℕ) where
+  -- a front has its shape; of a fault nothing is said
+  unfoldable Found : Front → Type 0
+  Found (check.front a r) = Shape s vars want bs a r
+  Found (none e) = Unit {0}
 
-    fits : (a : Arguments) → o.arguments ≡ a → o.result ≡ want → (x y : Term) → each (λ v. sorted s vars v x) (λ v. sorted s vars v y) a ≡ true → sorted s vars want (apply (get_or bs 1 0) x y) ≡ true
-    fits a z w x y t = both_true _ _ (lt-ltb _ _ there) (both_true _ _ (eq-eqb _ _ w) (ap (each (λ v. sorted s vars v x) (λ v. sorted s vars v y)) z ∙ t))
+  fault : (e : FileFault) → Found (none e)
+  unfolding Found
+  fault e = tt
 
-    opens : (p : List ℕ → Read) (a : Arguments) → o.arguments ≡ a → front s p bs ≡ applied p (get_or bs 1 0) a r
-    opens p a z = front_apply s p bs h e ∙ ap (λ x. applied p (get_or bs 1 0) x (drop 2 bs)) z ∙ ap (applied p (get_or bs 1 0) a) (sym q)
+  tested : (ok : Bool) (f : Front) (e : FileFault) → (ok ≡ true → Found f) → Found (cond ok f (none e))
+  tested true f e h = h refl
+  tested false f e h = fault e
 
-    begun : (p : List ℕ → Read) (a : Arguments) → o.arguments ≡ a → o.result ≡ want → Begun s vars want p (front s p bs) a r
-    begun p arguments.None z w = (apply (get_or bs 1 0) missing missing, opens p _ z, fits _ z w missing missing refl)
-    begun p (arguments.One a) z w = ((λ x. apply (get_or bs 1 0) x missing), opens p _ z, λ x t. fits _ z w x missing t)
-    begun p (arguments.Two a b) z w = (apply (get_or bs 1 0), opens p _ z, λ x y t u. fits _ z w x y (both_true _ _ t u))
+  -- a front of n + 1 bytes
+  begun : (n : ℕ) (a : Arguments) → n < length bs → ((p : List ℕ → Read) → Begun s vars want p (front s p bs) a (drop (suc n) bs)) → Found (check.front a (drop (suc n) bs))
+  unfolding Found
+  begun n a long terms = record { shorter = shorter_by (suc n) bs _ refl (omega arith) long; begun = terms }
 
-    pub shape_apply : (f : Operation) → f ≡ o → f.result ≡ want → Shape s vars want bs f.arguments r
-    shape_apply f is w = record {
-      shorter = shorter_by 2 bs r q (omega arith) h;
-      begun = λ p. begun p _ (ap (λ v. v.arguments) (sym is)) (ap (λ v. v.result) (sym is) ∙ w);
-    }
+  variable_found : (ends : ℕ) → get_or bs 0 0 ≡ 0x20 → Found (variable_at vars want bs ends)
+  variable_found ends e =
+      let v = get_or bs 1 0 in
+      tested (ltb 1 (length bs)) _ _ (λ h. tested (ltb v (length vars)) _ _ (λ there. tested (eqb (get_or vars v 0) want) _ _ (λ over.
+      let long = ltb-true 1 (length bs) h in
+      begun 1 arguments.None long (λ p. (variable v, front_variable s p bs long e, both_true _ _ there over)))))
 
-  pub shape_equal : 1 < length bs → get_or bs 0 0 ≡ 0x23 → want ≡ 0 → get_or bs 1 0 < length s.sizes → r ≡ drop 2 bs → Shape s vars want bs (arguments.Two (get_or bs 1 0) (get_or bs 1 0)) r
-  shape_equal h e w t q = record {
-    shorter = shorter_by 2 bs r q (omega arith) h;
-    begun = λ p. (
-      equal (get_or bs 1 0),
-      front_equal s p bs h e ∙ ap (two p (equal (get_or bs 1 0))) (sym q),
-      λ x y a b. both_true _ _ (eq-eqb _ _ w) (both_true _ _ (lt-ltb _ _ t) (both_true _ _ a b)),
-    );
-  }
+  constant_found : (ends : ℕ) → get_or bs 0 0 ≡ 0x21 → Found (constant_at s want bs ends)
+  constant_found ends e =
+      let t = get_or bs 1 0 in
+      let v = get_or bs 2 0 in
+      tested (ltb 1 (length bs)) _ _ (λ h. tested (ltb t (length s.sizes)) _ _ (λ there. tested (eqb t want) _ _ (λ over. tested (ltb 2 (length bs)) _ _ (λ h. tested (ltb v (size s t)) _ _ (λ known.
+      let long = ltb-true 2 (length bs) h in
+      begun 2 arguments.None long (λ p. (constant t v, front_constant s p bs long e, both_true _ _ over known)))))))
 
-  pub shape_negate : 0 < length bs → get_or bs 0 0 ≡ 0x24 → want ≡ 0 → r ≡ drop 1 bs → Shape s vars want bs (arguments.One 0) r
-  shape_negate h e w q = record {
-    shorter = shorter_by 1 bs r q (omega arith) h;
-    begun = λ p. (negate, front_negate s p bs h e ∙ ap (one p negate) (sym q), λ x a. both_true _ _ (eq-eqb _ _ w) a);
-  }
+  abbrev o : Operation
+  o = operation s (get_or bs 1 0)
 
-  pub shape_both : 0 < length bs → get_or bs 0 0 ≡ 0x25 → want ≡ 0 → r ≡ drop 1 bs → Shape s vars want bs (arguments.Two 0 0) r
-  shape_both h e w q = record {
-    shorter = shorter_by 1 bs r q (omega arith) h;
-    begun = λ p. (both, front_both s p bs h e ∙ ap (two p both) (sym q), λ x y a b. both_true _ _ (eq-eqb _ _ w) (both_true _ _ a b));
-  }
+  module _ (e : get_or bs 0 0 ≡ 0x22) (long : 1 < length bs) (there : ltb (get_or bs 1 0) (length s.operations) ≡ true) (over : eqb o.result want ≡ true) where
+    fits : (a : Arguments) → o.arguments ≡ a → (x y : Term) → each (λ v. sorted s vars v x) (λ v. sorted s vars v y) a ≡ true → sorted s vars want (apply (get_or bs 1 0) x y) ≡ true
+    fits a z x y t = both_true _ _ there (both_true _ _ over (ap (each (λ v. sorted s vars v x) (λ v. sorted s vars v y)) z ∙ t))
+
+    opens : (p : List ℕ → Read) (a : Arguments) → o.arguments ≡ a → front s p bs ≡ applied p (get_or bs 1 0) a (drop 2 bs)
+    opens p a z = front_apply s p bs long e ∙ ap (λ x. applied p (get_or bs 1 0) x (drop 2 bs)) z
+
+    takes : (p : List ℕ → Read) (a : Arguments) → o.arguments ≡ a → Begun s vars want p (front s p bs) a (drop 2 bs)
+    takes p arguments.None z = (apply (get_or bs 1 0) missing missing, opens p _ z, fits _ z missing missing refl)
+    takes p (arguments.One a) z = ((λ x. apply (get_or bs 1 0) x missing), opens p _ z, λ x t. fits _ z x missing t)
+    takes p (arguments.Two a b) z = (apply (get_or bs 1 0), opens p _ z, λ x y t u. fits _ z x y (both_true _ _ t u))
+
+  application_found : (ends : ℕ) → get_or bs 0 0 ≡ 0x22 → Found (application_at s want bs ends)
+  application_found ends e =
+      tested (ltb 1 (length bs)) _ _ (λ h. tested (ltb (get_or bs 1 0) (length s.operations)) _ _ (λ there. tested (eqb o.result want) _ _ (λ over.
+      let long = ltb-true 1 (length bs) h in
+      begun 1 o.arguments long (λ p. takes e long there over p _ refl))))
+
+  equality_found : (ends : ℕ) → get_or bs 0 0 ≡ 0x23 → Found (equality_at s want bs ends)
+  equality_found ends e =
+      let t = get_or bs 1 0 in
+      tested (eqb want 0) _ _ (λ over. tested (ltb 1 (length bs)) _ _ (λ h. tested (ltb t (length s.sizes)) _ _ (λ there.
+      let long = ltb-true 1 (length bs) h in
+      begun 1 (arguments.Two t t) long (λ p. (equal t, front_equal s p bs long e, λ x y a b. both_true _ _ over (both_true _ _ there (both_true _ _ a b)))))))
+
+  negation_found : (ends : ℕ) → 0 < length bs → get_or bs 0 0 ≡ 0x24 → Found (logic_at (arguments.One 0) want bs ends)
+  negation_found ends long e = tested (eqb want 0) _ _ (λ over. begun 0 (arguments.One 0) long (λ p. (negate, front_negate s p bs long e, λ x a. both_true _ _ over a)))
+
+  both_found : (ends : ℕ) → 0 < length bs → get_or bs 0 0 ≡ 0x25 → Found (logic_at (arguments.Two 0 0) want bs ends)
+  both_found ends long e = tested (eqb want 0) _ _ (λ over. begun 0 (arguments.Two 0 0) long (λ p. (both, front_both s p bs long e, λ x y a b. both_true _ _ over (both_true _ _ a b))))
+
+  head_found : (deep : Bool) (ends : ℕ) → Found (head_at s vars deep want bs ends)
+  head_found deep ends =
+      let c = get_or bs 0 0 in
+      tested (ltb 0 (length bs)) _ _ (λ h. tested (leb 0x20 c && leb c 0x25) _ _ (λ known. cond_both deep _ _ Found (λ d. fault _) (λ d.
+      cond_both (eqb c 0x20) _ _ Found (λ e. variable_found ends (eqb-true _ _ e)) (λ e0.
+      cond_both (eqb c 0x21) _ _ Found (λ e. constant_found ends (eqb-true _ _ e)) (λ e1.
+      cond_both (eqb c 0x22) _ _ Found (λ e. application_found ends (eqb-true _ _ e)) (λ e2.
+      cond_both (eqb c 0x23) _ _ Found (λ e. equality_found ends (eqb-true _ _ e)) (λ e3.
+      cond_both (eqb c 0x24) _ _ Found (λ e. negation_found ends (ltb-true _ _ h) (eqb-true _ _ e)) (λ e4.
+      both_found ends (ltb-true _ _ h) (grind (arith, nat_tests))))))))))
+
+  -- whatever front the check finds has its shape
+  pub head_shape : (deep : Bool) (ends : ℕ) (a : Arguments) (r : List ℕ) → check.front a r ≡ head_at s vars deep want bs ends → Shape s vars want bs a r
+  unfolding Found
+  head_shape deep ends a r is = subst Found (sym is) (head_found deep ends)
 
 -- one turn of the check
 module _ (s : Sig) (vars : List ℕ) (d want : ℕ) (bs r : List ℕ) (deep : 0 < d) where

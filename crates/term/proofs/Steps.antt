@@ -1,5 +1,5 @@
 -- One turn of the check of a term.
-use Rattle.std.proofs.Common.{◌≡◌, ℕ, zero, suc, ◌-◌, ◌<◌, Bool, true, false, cond, ◌&&◌, eqb, ltb, leb, List, length, get_or, ap, sym, ◌∙◌, subst, arith, ne_eqb}
+use Rattle.std.proofs.Common.{◌≡◌, ℕ, zero, suc, ◌-◌, ◌<◌, Bool, true, false, cond, ◌&&◌, eqb, ltb, leb, List, length, get_or, refl, ap, sym, ◌∙◌, arith, ne_eqb}
 use Rattle.term.specs.declared.check.Checker.{Checker}
 use Rattle.term.specs.declared.check.Head.{Head}
 use Rattle.term.specs.declared.fault.Fault.TheVariants as fault
@@ -8,8 +8,8 @@ use Rattle.term.specs.declared.signature.Arguments.{Arguments}
 use Rattle.term.specs.declared.signature.Arguments.TheVariants as arguments
 use Rattle.term.specs.Meaning.{of}
 use Rattle.term.specs.Check.{Front, front, none, Checked, bad, head_at, check_term, parts, then, in_term, place}
-use Rattle.term.specs.Shape.{Passed, Shape}
-use Rattle.term.proofs.Shapes.{passed_leaf, passed_one, passed_two}
+use Rattle.term.specs.Shape.{Passed}
+use Rattle.term.proofs.Shapes.{Shape, head_shape, passed_leaf, passed_one, passed_two}
 
 never : (p q : Bool) (a : Arguments) (r : List ℕ) (x y z : FileFault) → front a r ≡ cond p (cond q (none x) (none y)) (none z) → ⊥
 never true true a r x y z h = cc
@@ -54,18 +54,20 @@ module _ (k : Checker) where
     pub then_second : (a b : ℕ) (x : Checked) → h.parts ≡ arguments.Two a b → x ≡ check (d - 1) a h.rest.now → then x (check (d - 1) b) ≡ check d want bs
     then_second a b x is first = ap (λ t. then t (check (d - 1) b)) first ∙ asks (arguments.Two a b) is
 
-    module _ (shape : Shape (of k.signature) k.variables.now want bs h.parts h.rest.now) where
-      abbrev passed : ℕ → ℕ → List ℕ → List ℕ → Type 0
-      passed e w l r = Passed (of k.signature) k.variables.now e w l r
+    abbrev passed : ℕ → ℕ → List ℕ → List ℕ → Type 0
+    passed e w l r = Passed (of k.signature) k.variables.now e w l r
 
-      with_sorts : (a : Arguments) → h.parts ≡ a → Shape (of k.signature) k.variables.now want bs a h.rest.now
-      with_sorts a is = subst (λ (x : Arguments). Shape (of k.signature) k.variables.now want bs x h.rest.now) is shape
+    shape_of : (a : Arguments) → h.parts ≡ a → Shape (of k.signature) k.variables.now want bs a h.rest.now
+    shape_of a is = head_shape (of k.signature) k.variables.now want bs (eqb d 0) k.ends a h.rest.now (ap (λ x. front x h.rest.now) (sym is) ∙ value)
 
-      pub leaf : h.parts ≡ arguments.None → passed d want bs h.rest.now
-      leaf is = passed_leaf (of k.signature) k.variables.now d want bs h.rest.now deep (with_sorts _ is)
+    pub shorter : length h.rest.now < length bs
+    shorter = (shape_of h.parts refl).shorter
 
-      pub unary : (a : ℕ) → h.parts ≡ arguments.One a → (q : List ℕ) → passed (d - 1) a h.rest.now q → passed d want bs q
-      unary a is q p = passed_one (of k.signature) k.variables.now d want bs h.rest.now deep a q (with_sorts _ is) p
+    pub leaf : h.parts ≡ arguments.None → passed d want bs h.rest.now
+    leaf is = passed_leaf (of k.signature) k.variables.now d want bs h.rest.now deep (shape_of _ is)
 
-      pub binary : (a b : ℕ) → h.parts ≡ arguments.Two a b → (q t : List ℕ) → passed (d - 1) a h.rest.now q → passed (d - 1) b q t → passed d want bs t
-      binary a b is q t p u = passed_two (of k.signature) k.variables.now d want bs h.rest.now deep a b q t (with_sorts _ is) p u
+    pub unary : (a : ℕ) → h.parts ≡ arguments.One a → (q : List ℕ) → passed (d - 1) a h.rest.now q → passed d want bs q
+    unary a is q p = passed_one (of k.signature) k.variables.now d want bs h.rest.now deep a q (shape_of _ is) p
+
+    pub binary : (a b : ℕ) → h.parts ≡ arguments.Two a b → (q t : List ℕ) → passed (d - 1) a h.rest.now q → passed (d - 1) b q t → passed d want bs t
+    binary a b is q t p u = passed_two (of k.signature) k.variables.now d want bs h.rest.now deep a b q t (shape_of _ is) p u

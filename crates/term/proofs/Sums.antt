@@ -51,3 +51,6 @@ place_here p e n =
 
 pub place_else : (p e n c : ℕ) → (c ≡ 64 * p + e → ⊥) → on_place p (λ i. cond (eqb e i) n 0) c ≡ 0
 place_else p e n c h = grind (arith, nat_tests)
+
+pub place_past : (p : ℕ) (f : ℕ → ℕ) (c : ℕ) → c < 64 * p → on_place p f c ≡ 0
+place_past p f c h = grind (arith, nat_tests, h)

@@ -4,7 +4,7 @@ use Rattle.std.proofs.lemmas.Bool.Decides.{nat_tests}
 use Rattle.std.proofs.lemmas.List.{get_or-drop, get_or-take, get_or_past, length-take}
 use Rattle.term.specs.Meaning.{BagOperation, Sig, copies_in, no_bag, size}
 use Rattle.term.specs.Counts.{Added}
-use Rattle.term.specs.Tally.{Adds, Words}
+use Rattle.term.specs.Tally.{Words}
 
 -- an element below e, and one more
 pub none_below : (i n : ℕ) → cond (ltb i 0) n 0 ≡ 0
@@ -75,16 +75,3 @@ words a b base f same w p i = by (ltb i base) (ltb i (length a)) refl refl
         let past : length b ≤ i = grind (arith, nat_tests, r, same) in
         let e = get_or_past b i 0 past in
         omega (arith, e)
-
-module _ {T : Type 0} {gains : T → (ℕ → ℕ) → ℕ → T → Type 0} (law : Adds gains) where
-  pub none_yet : (a : T) (row : List ℕ) → gains a (row_below row 0) 0 a
-  none_yet a row = law.alike a a (λ e. 0) (row_below row 0) 0 0 (λ i. sym (none_below i (get_or row i 0))) (omega arith) (law.nothing a)
-
-  pub and_next : (a b c : T) (row : List ℕ) (e n : ℕ) → n ≡ get_or row e 0 → n < 256 → gains a (row_below row e) (255 * e) b → gains b (λ i. cond (eqb e i) n 0) n c → gains a (row_below row (e + 1)) (255 * (e + 1)) c
-  and_next a b c row e n here few p q =
-      law.alike a c (λ i. row_below row e i + cond (eqb e i) n 0) (row_below row (e + 1)) (255 * e + n) (255 * (e + 1)) (λ i. one_more (λ j. get_or row j 0) e n i here) (omega arith)
-      (law.after a b c (row_below row e) (λ i. cond (eqb e i) n 0) (255 * e) n p q)
-
-  pub whole_row : (a b : T) (row : List ℕ) (e : ℕ) → e ≡ length row → length row < 256 → gains a (row_below row e) (255 * e) b → gains a (λ i. get_or row i 0) 65025 b
-  whole_row a b row e all few p =
-      law.alike a b (row_below row e) (λ i. get_or row i 0) (255 * e) 65025 (λ i. ap (λ n. row_below row n i) all ∙ whole row i) (omega arith) p

@@ -62,6 +62,10 @@ module _ (s : Sig) where
     pub at_both : 0 < length bs → get_or bs 0 0 ≡ 0x25 → term_at s d bs ≡ two (term_at s (d - 1)) both (drop 1 bs)
     at_both h e = turn d bs deep ∙ front_both (term_at s (d - 1)) bs h e
 
+    pub at_nothing : begins 0x20 1 bs ≡ false → begins 0x21 2 bs ≡ false → begins 0x22 1 bs ≡ false → begins 0x23 1 bs ≡ false → begins 0x24 0 bs ≡ false → begins 0x25 0 bs ≡ false
+        → term_at s d bs ≡ (missing, bs)
+    at_nothing a b c e f g = turn d bs deep ∙ rw (a, b, c, e, f, g)
+
 -- what the values and rests of one part, or of two, are in terms of where the parts begin
 module _ (p : List ℕ → Read) (g : Term → ℕ) (bs r : List ℕ) (same : r ≡ bs) where
   pub first_part : (a : ℕ) (ra : List ℕ) → a ≡ g (p r).0 → ra ≡ (p r).1 → (a ≡ g (p bs).0) × (ra ≡ (p bs).1)

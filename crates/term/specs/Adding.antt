@@ -3,7 +3,7 @@ use Rattle.std.specs.Prelude.{◌≡◌, ℕ, zero, suc, ◌+◌, ◌-◌, ◌*�
 use Rattle.std.proofs.Common.{sym, ap, ◌∙◌, subst, arith}
 use Rattle.domain.specs.Meaning.{Laws, Meaning, copies}
 use Rattle.domain.proofs.Copies.{copies_add, copies_holds, exchange}
-use Rattle.term.specs.declared.tally.Weights.{Weights}
+use Rattle.term.specs.declared.tally.Weighed.{Weighed}
 use Rattle.term.specs.Counts.{Added}
 use Rattle.term.specs.Tally.{Adds, CountGains, Words, WeightGains}
 use Rattle.term.specs.Worth.{Marking, Weighs, on_place, value_of, value_to, weight_of}
@@ -152,23 +152,26 @@ counts_add = record {
 
 module _ {W V : Type 0} (meaning : W → Meaning V) (lawful : (w : W) → Laws (meaning w)) where
   -- what is weighed by equal weights
-  moved : (a b : Weights W V) (v r : V) (f : ℕ → ℕ) (n : ℕ) → b.domain ≡ a.domain → b.codes ≡ a.codes → b.place ≡ a.place
-      → Weighs (meaning b.domain.now) b.codes.now v (on_place b.place f) n r → Weighs (meaning a.domain.now) a.codes.now v (on_place a.place f) n r
-  moved a b v r f n d c p h = rw (sym d, sym c, sym p) h
+  moved : (a b : Weighed W V) (v r : V) (f : ℕ → ℕ) (n : ℕ) → b.weights ≡ a.weights → b.place ≡ a.place
+      → Weighs (meaning b.weights.now.domain.now) b.weights.now.codes.now v (on_place b.place f) n r
+      → Weighs (meaning a.weights.now.domain.now) a.weights.now.codes.now v (on_place a.place f) n r
+  moved a b v r f n w p h = rw (sym w, sym p) h
 
   pub weights_add : Adds (WeightGains meaning)
   weights_add = record {
-    nothing = λ a. record { domain = refl; codes = refl; place = refl; weighs = nothing_on (lawful a.domain.now) a.codes.now a.place a.sum (λ e. 0) 0 (λ e. refl) };
+    nothing = λ a. record {
+      weights = refl;
+      place = refl;
+      weighs = nothing_on (lawful a.weights.now.domain.now) a.weights.now.codes.now a.place a.sum (λ e. 0) 0 (λ e. refl);
+    };
     after = λ a b c f g i j p q. record {
-      domain = q.domain ∙ p.domain;
-      codes = q.codes ∙ p.codes;
+      weights = q.weights ∙ p.weights;
       place = q.place ∙ p.place;
-      weighs = after_on (lawful a.domain.now) a.codes.now a.place a.sum b.sum c.sum f g i j p.weighs (moved a b b.sum c.sum g j p.domain p.codes p.place q.weighs);
+      weighs = after_on (lawful a.weights.now.domain.now) a.weights.now.codes.now a.place a.sum b.sum c.sum f g i j p.weighs (moved a b b.sum c.sum g j p.weights p.place q.weighs);
     };
     alike = λ a b f g i j same few p. record {
-      domain = p.domain;
-      codes = p.codes;
+      weights = p.weights;
       place = p.place;
-      weighs = alike_on (lawful a.domain.now) a.codes.now a.place a.sum b.sum f g i j same few p.weighs;
+      weighs = alike_on (lawful a.weights.now.domain.now) a.weights.now.codes.now a.place a.sum b.sum f g i j same few p.weighs;
     };
   }

@@ -2,7 +2,7 @@
 use Rattle.std.specs.Prelude.{◌≡◌, ℕ, ◌+◌, ◌*◌, ◌^◌, ◌<◌, ◌≤◌, List, length, slice_index}
 use Rattle.domain.specs.Meaning.{Meaning}
 use Rattle.term.specs.declared.tally.Counts.{Counts}
-use Rattle.term.specs.declared.tally.Weights.{Weights}
+use Rattle.term.specs.declared.tally.Weighed.{Weighed}
 use Rattle.term.specs.Counts.{Added}
 use Rattle.term.specs.Worth.{Weighs, on_place}
 
@@ -25,8 +25,7 @@ pub record CountGains (a : Counts) (f : ℕ → ℕ) (n : ℕ) (b : Counts) : Ty
   pub added : Words a.counts.now → Words b.counts.now × Added a.counts.now b.counts.now (64 * a.place) f
 
 -- tokens on the place, by the same weights, are added to the sum
-pub record WeightGains {W V : Type 0} (meaning : W → Meaning V) (a : Weights W V) (f : ℕ → ℕ) (n : ℕ) (b : Weights W V) : Type 0 where
-  pub domain : b.domain ≡ a.domain
-  pub codes : b.codes ≡ a.codes
+pub record WeightGains {W V : Type 0} (meaning : W → Meaning V) (a : Weighed W V) (f : ℕ → ℕ) (n : ℕ) (b : Weighed W V) : Type 0 where
+  pub weights : b.weights ≡ a.weights
   pub place : b.place ≡ a.place
-  pub weighs : Weighs (meaning a.domain.now) a.codes.now a.sum (on_place a.place f) n b.sum
+  pub weighs : Weighs (meaning a.weights.now.domain.now) a.weights.now.codes.now a.sum (on_place a.place f) n b.sum

@@ -5,8 +5,8 @@ ghost use Rattle.term.specs.Prefix.{bag_at};
 ghost use Rattle.term.specs.Worth.{Weighs, most, on_place};
 
 use crate::evaluate::Evaluator;
-use crate::tally::{Counts, Tally, Weights};
-use domain::WeightDomain;
+use crate::tally::{Counts, Tally, Weighed};
+use domain::{WeightDomain, Weights};
 
 impl<'s> Evaluator<'s> {
     // Adds the bag at the front of `bytes`, and gives what follows the bag.
@@ -59,17 +59,15 @@ impl<'s> Evaluator<'s> {
         &self,
         bytes: &'f [u8],
         depth: u8,
-        d: &D,
-        codes: &[i32],
+        weights: &Weights<D>,
         place: u8,
         sum: D::Value,
     ) -> (D::Value, &'f [u8])
-        ensures sum { Weighs (D.meaning d.now) codes.now sum (on_place place (count (of self.now.signature) self.now.mode.now (bag_at (of self.now.signature) depth bytes.now).0)) (most (bag_at (of self.now.signature) depth bytes.now).0) result.0 }
+        ensures sum { Weighs (D.meaning weights.now.domain.now) weights.now.codes.now sum (on_place place (count (of self.now.signature) self.now.mode.now (bag_at (of self.now.signature) depth bytes.now).0)) (most (bag_at (of self.now.signature) depth bytes.now).0) result.0 }
         ensures rest { result.1.now ≡ (bag_at (of self.now.signature) depth bytes.now).1 }
     {
-        let mut tally = Weights {
-            domain: d,
-            codes,
+        let mut tally = Weighed {
+            weights,
             place,
             sum,
         };

@@ -1,7 +1,7 @@
-ghost use Rattle.std.specs.Prelude.{◌≡◌, ℕ, ◌<◌, ◌≤◌, List, length, IfOk, slice_index};
+ghost use Rattle.std.specs.Prelude.{◌≡◌, ℕ, ◌<◌, ◌≤◌, List, length, nat_eq, IfOk, slice_index};
 ghost use Rattle.term.specs.Check.{Checked, application_at, check_bag, check_term, checked, constant_at, equality_at, flexible_at, front_of, head_at, in_term, onward, place, variable_at};
 ghost use Rattle.term.specs.Meaning.{of};
-ghost use Rattle.term.specs.Shape.{Flexible, Passed, PassedBag, Shape};
+ghost use Rattle.term.specs.Shape.{Flexible, Passed, PassedBag};
 
 use crate::fault::{Fault, FileFault, Stage};
 use crate::signature::{Arguments, Signature};
@@ -47,9 +47,7 @@ impl<'s> Checker<'s> {
 
     // number of a variable
     fn variable<'f>(&self, bytes: &'f [u8], want: u8) -> Result<Head<'f>, FileFault>
-        requires begins { (0 < length bytes.now) × (slice_index bytes.now 0 ≡ 0x20) }
         ensures value { front_of result ≡ variable_at self.now.variables.now want bytes.now self.now.ends }
-        ensures shape { IfOk result (λ h. Shape (of self.now.signature) self.now.variables.now want bytes.now h.parts h.rest.now) }
     {
         let [_, number, rest @ ..] = bytes else {
             return Err(self.ended());
@@ -66,9 +64,7 @@ impl<'s> Checker<'s> {
 
     // sort, element
     fn constant<'f>(&self, bytes: &'f [u8], want: u8) -> Result<Head<'f>, FileFault>
-        requires begins { (0 < length bytes.now) × (slice_index bytes.now 0 ≡ 0x21) }
         ensures value { front_of result ≡ constant_at (of self.now.signature) want bytes.now self.now.ends }
-        ensures shape { IfOk result (λ h. Shape (of self.now.signature) self.now.variables.now want bytes.now h.parts h.rest.now) }
     {
         let sizes = self.signature.sizes;
         match bytes {
@@ -93,9 +89,7 @@ impl<'s> Checker<'s> {
 
     // number of an operation
     fn application<'f>(&self, bytes: &'f [u8], want: u8) -> Result<Head<'f>, FileFault>
-        requires begins { (0 < length bytes.now) × (slice_index bytes.now 0 ≡ 0x22) }
         ensures value { front_of result ≡ application_at (of self.now.signature) want bytes.now self.now.ends }
-        ensures shape { IfOk result (λ h. Shape (of self.now.signature) self.now.variables.now want bytes.now h.parts h.rest.now) }
     {
         let [_, number, rest @ ..] = bytes else {
             return Err(self.ended());
@@ -112,9 +106,7 @@ impl<'s> Checker<'s> {
 
     // sort of both parts
     fn equality<'f>(&self, bytes: &'f [u8], want: u8) -> Result<Head<'f>, FileFault>
-        requires begins { (0 < length bytes.now) × (slice_index bytes.now 0 ≡ 0x23) }
         ensures value { front_of result ≡ equality_at (of self.now.signature) want bytes.now self.now.ends }
-        ensures shape { IfOk result (λ h. Shape (of self.now.signature) self.now.variables.now want bytes.now h.parts h.rest.now) }
     {
         match bytes {
             _ if want != 0 => Err(self.refused(Fault::Sort, bytes, 0)),
@@ -131,15 +123,13 @@ impl<'s> Checker<'s> {
         }
     }
 
-    // The front of a term of sort `want`; not and `and` have parts of sort 0. `deep` is a bool and no depth: the depth is
-    // the caller's, which takes one off for each part.
-    fn head<'f>(&self, bytes: &'f [u8], deep: bool, want: u8) -> Result<Head<'f>, FileFault>
-        ensures value { front_of result ≡ head_at (of self.now.signature) self.now.variables.now deep want bytes.now self.now.ends }
-        ensures shape { IfOk result (λ h. Shape (of self.now.signature) self.now.variables.now want bytes.now h.parts h.rest.now) }
+    // The front of a term of sort `want`; not and `and` have parts of sort 0.
+    fn head<'f>(&self, bytes: &'f [u8], depth: u8, want: u8) -> Result<Head<'f>, FileFault>
+        ensures value { front_of result ≡ head_at (of self.now.signature) self.now.variables.now (nat_eq depth 0) want bytes.now self.now.ends }
     {
         match bytes {
             [] => Err(self.ended()),
-            [0x20..=0x25, ..] if deep => Err(self.refused(Fault::Deep, bytes, 0)),
+            [0x20..=0x25, ..] if depth == 0 => Err(self.refused(Fault::Deep, bytes, 0)),
             [0x20, ..] => self.variable(bytes, want),
             [0x21, ..] => self.constant(bytes, want),
             [0x22, ..] => self.application(bytes, want),
@@ -158,12 +148,13 @@ impl<'s> Checker<'s> {
     }
 
     // Checks a term of sort `want`, of at most the depth `depth`, and gives what follows it.
+    #[tactic(auto, using(crate::proofs::Steps::shorter))]
     pub fn term<'f>(&self, bytes: &'f [u8], depth: u8, want: u8) -> Result<&'f [u8], FileFault>
         ensures value { checked result ≡ check_term (of self.now.signature) self.now.variables.now self.now.ends depth want bytes.now }
         ensures shorter { IfOk result (λ t. length t.now < length bytes.now) }
         ensures passed { IfOk result (λ t. Passed (of self.now.signature) self.now.variables.now depth want bytes.now t.now) }
     {
-        let head = self.head(bytes, depth == 0, want)?;
+        let head = self.head(bytes, depth, want)?;
         match head.parts {
             Arguments::None => Ok(head.rest),
             Arguments::One(a) => self.term(head.rest, depth - 1, a),
@@ -199,7 +190,6 @@ impl<'s> Checker<'s> {
 
     // The argument sort of a bag operation over `want`, and what follows its number.
     fn flexible<'f>(&self, bytes: &'f [u8], want: u8) -> Result<(u8, &'f [u8]), FileFault>
-        requires begins { 0 < length bytes.now }
         ensures value { (t : ℕ → List ℕ → Checked) → onward t result ≡ flexible_at (of self.now.signature) t want bytes.now self.now.ends }
         ensures found { IfOk result (λ h. Flexible (of self.now.signature) want bytes.now h.0 h.1.now) }
     {

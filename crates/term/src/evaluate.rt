@@ -17,44 +17,65 @@ impl<'s> Evaluator<'s> {
         ensures value { result.0 ≡ value_of (of self.now.signature) self.now.mode.now (term_at (of self.now.signature) depth bytes.now).0 }
         ensures rest { result.1.now ≡ (term_at (of self.now.signature) depth bytes.now).1 }
     {
+        let mut rest = bytes;
+        let element = self.next(&mut rest, depth);
+        (element, rest)
+    }
+
+    // The same, as a step: `bytes` moves past the term. The parts of a term are evaluated by this one and not by `value`,
+    // whose pair would be kept in memory for each call, which is slower.
+    fn next<'f>(&self, bytes: &mut &'f [u8], depth: u8) -> u8
+        ensures value { result ≡ value_of (of self.now.signature) self.now.mode.now (term_at (of self.now.signature) depth bytes.old.now).0 }
+        ensures rest { bytes.new.now ≡ (term_at (of self.now.signature) depth bytes.old.now).1 }
+    {
         if depth == 0 {
-            return (0, bytes);
+            return 0;
         }
-        match bytes {
-            [0x20, v, rest @ ..] => (at(self.mode, *v as usize), rest),
-            [0x21, _, element, rest @ ..] => (*element, rest),
+        match *bytes {
+            [0x20, v, rest @ ..] => {
+                *bytes = rest;
+                at(self.mode, *v as usize)
+            }
+            [0x21, _, element, rest @ ..] => {
+                *bytes = rest;
+                *element
+            }
             [0x22, k, rest @ ..] => {
+                *bytes = rest;
                 let Some(o) = self.signature.operation(*k) else {
-                    return (0, rest);
+                    return 0;
                 };
                 match o.arguments {
-                    Arguments::None => (self.signature.result(o, 0, 0), rest),
+                    Arguments::None => self.signature.result(o, 0, 0),
                     Arguments::One(_) => {
-                        let (a, rest) = self.value(rest, depth - 1);
-                        (self.signature.result(o, a, 0), rest)
+                        let a = self.next(bytes, depth - 1);
+                        self.signature.result(o, a, 0)
                     }
                     Arguments::Two(_, _) => {
-                        let (a, rest) = self.value(rest, depth - 1);
-                        let (b, rest) = self.value(rest, depth - 1);
-                        (self.signature.result(o, a, b), rest)
+                        let a = self.next(bytes, depth - 1);
+                        let b = self.next(bytes, depth - 1);
+                        self.signature.result(o, a, b)
                     }
                 }
             }
             [0x23, _, rest @ ..] => {
-                let (a, rest) = self.value(rest, depth - 1);
-                let (b, rest) = self.value(rest, depth - 1);
-                (u8::from(a == b), rest)
+                *bytes = rest;
+                let a = self.next(bytes, depth - 1);
+                let b = self.next(bytes, depth - 1);
+                u8::from(a == b)
             }
             [0x24, rest @ ..] => {
-                let (a, rest) = self.value(rest, depth - 1);
-                (u8::from(a == 0), rest)
+                *bytes = rest;
+                let a = self.next(bytes, depth - 1);
+                u8::from(a == 0)
             }
             [0x25, rest @ ..] => {
-                let (a, rest) = self.value(rest, depth - 1);
-                let (b, rest) = self.value(rest, depth - 1);
-                (u8::from(a == 1 && b == 1), rest)
+                *bytes = rest;
+                let a = self.next(bytes, depth - 1);
+                let b = self.next(bytes, depth - 1);
+                u8::from(a == 1 && b == 1)
             }
-            _ => (0, bytes),
+            _ => 0,
         }
     }
 }

@@ -4,8 +4,8 @@ ghost use Rattle.term.specs.Adding.{counts_add, weights_add};
 ghost use Rattle.term.specs.Counts.{Added};
 ghost use Rattle.term.specs.Tally.{Adds, CountGains, WeightGains};
 
-use domain::WeightDomain;
-use std::mem;
+use crate::cells::cell;
+use domain::{WeightDomain, Weights, add_weight};
 
 // `gains` says what tokens make of one state: how many of each element there are, and at most how many in all.
 pub(crate) trait Tally {
@@ -18,12 +18,7 @@ pub(crate) trait Tally {
     // Adds as many tokens of each element as a row says.
     fn add_row(&mut self, row: &[u8])
         requires few { length row.now < 256 }
-        ensures { gains self.old (λ e. (slice_index row.now e)) 65025 self.new }
-    {
-        for (e, n) in row.iter().enumerate() {
-            self.add(e as u8, *n);
-        }
-    }
+        ensures { gains self.old (λ e. (slice_index row.now e)) 65025 self.new };
 
     ghost laws: { Adds gains };
 }
@@ -54,7 +49,7 @@ impl Tally for Counts<'_> {
 fn add(counts: &mut [u32], place: u8, element: u8, n: u8)
     ensures { Added counts.old counts.new (64 * place) (λ e. (if nat_eq element e then n else 0)) }
 {
-    let cell = 64 * place as usize + element as usize;
+    let cell = cell(place, element);
     // by index: the proof does not see what a count that `get_mut` lends becomes
     if cell < counts.len() {
         counts[cell] = counts[cell].saturating_add(u32::from(n));
@@ -73,38 +68,28 @@ fn add_row(counts: &mut [u32], place: u8, row: &[u8])
 
 // A value, to which tokens on a place are added, each with its cell's weight.
 #[derive(Drop)]
-pub(crate) struct Weights<'a, D: WeightDomain> {
-    pub(crate) domain: &'a D,
-    pub(crate) codes: &'a [i32],
+pub(crate) struct Weighed<'a, D: WeightDomain> {
+    pub(crate) weights: &'a Weights<'a, D>,
     pub(crate) place: u8,
     pub(crate) sum: D::Value,
 }
 
-impl<D: WeightDomain> Tally for Weights<'_, D> {
+impl<D: WeightDomain> Tally for Weighed<'_, D> {
     ghost gains = { WeightGains D.meaning };
 
     ghost laws = { weights_add D.meaning D.lawful };
 
     fn add(&mut self, element: u8, n: u8) {
-        let cell = 64 * self.place as usize + element as usize;
-        if let Some(code) = self.codes.get(cell) {
-            let weight = self.domain.weight(*code);
-            self.sum = self.domain.add_copies(&self.sum, u32::from(n), &weight);
+        let Weights { domain, codes } = *self.weights;
+        if let Some(code) = codes.get(cell(self.place, element)) {
+            self.sum = add_weight(domain, &self.sum, u32::from(n), *code);
         }
     }
 
-    // in a local value: behind `self` it would be read again for each element, which is slower
     fn add_row(&mut self, row: &[u8]) {
-        let zero = self.domain.zero();
-        let mut here = Weights {
-            domain: self.domain,
-            codes: self.codes,
-            place: self.place,
-            sum: mem::replace(&mut self.sum, zero),
-        };
-        for (e, n) in row.iter().enumerate() {
-            here.add(e as u8, *n);
+        let Weights { domain, codes } = *self.weights;
+        if let Some(codes) = codes.get(cell(self.place, 0)..) {
+            self.sum = domain.add_row(&self.sum, row, codes);
         }
-        self.sum = here.sum;
     }
 }

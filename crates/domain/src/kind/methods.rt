@@ -40,9 +40,6 @@ impl Kind {
     pub fn is_measuring(&self) -> bool
         ensures { result ≡ kind_measures self.now }
     {
-        match self {
-            Kind::Equal | Kind::NeverRises | Kind::Siphon => true,
-            Kind::NeverFalls | Kind::Modulo(_) | Kind::Trap => false,
-        }
+        matches!(self, Kind::Equal | Kind::NeverRises | Kind::Siphon)
     }
 }

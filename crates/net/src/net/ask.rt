@@ -1,15 +1,15 @@
 // What judging and firing ask of a net.
-ghost use Rattle.std.specs.Prelude.{◌≡◌, true, ◌/◌, ◌<◌, ◌≤◌, length, vec_len, MatchOption};
+ghost use Rattle.std.specs.Prelude.{◌≡◌, ◌/◌, ◌<◌, ◌≤◌, length, vec_items, vec_len, MatchOption};
 ghost use Rattle.term.specs.Meaning.{of};
 ghost use Rattle.term.specs.Worth.{Weighs, value_of};
 ghost use Rattle.domain.specs.Meaning.{Tells};
-ghost use Rattle.format.specs.Format.{mode_count};
-ghost use Rattle.net.specs.Nets.{IsKind, Mode, Tallied, arcs_of, codes_of, digit, given, guard_holds, load, mode_of, side, sig, taken, transition};
+ghost use Rattle.format.specs.Format.{mode_count, place_size};
+ghost use Rattle.net.specs.Nets.{HasCell, IsKind, Mode, Tallied, arcs_of, codes_of, digit, given, guard_holds, load, mode_of, side, sig, taken, transition};
 
 use super::{CELLS, Net};
 use crate::firing::Firing;
 use crate::parts::Arc;
-use domain::{Kind, WeightDomain};
+use domain::{Kind, WeightDomain, Weights};
 use format::{DEPTH, Direction, modes, place_size};
 use term::Evaluator;
 
@@ -87,17 +87,18 @@ impl Net {
         }
     }
 
+    // How many elements a place has, 0 where there is no such place.
+    pub(crate) fn elements(&self, place: u8) -> u8
+        ensures { result ≡ place_size (vec_items self.now.sizes) (vec_items self.now.places) place }
+    {
+        place_size(self.sizes.as_slice(), self.places.as_slice(), place)
+    }
+
     // Whether the net has this cell: a place of it, and an element of that place's sort.
     pub fn has_cell(&self, cell: usize) -> bool
-        ensures { result ≡ true → cell < 1024 }
+        ensures { Tells result (HasCell self.now cell) }
     {
-        cell < CELLS
-            && ((cell % 64) as u8)
-                < place_size(
-                    self.sizes.as_slice(),
-                    self.places.as_slice(),
-                    (cell / 64) as u8,
-                )
+        cell < CELLS && ((cell % 64) as u8) < self.elements((cell / 64) as u8)
     }
 
     // The initial marking.
@@ -118,6 +119,7 @@ impl Net {
     pub fn mode(&self, t: usize, i: u32) -> [u8; 4]
         ensures { result ≡ mode_of (transition self.now t).sizes i }
     {
+        // no `map_or`: its proof stays open
         let Some(t) = self.transitions.get(t) else {
             return [0; 4];
         };
@@ -128,10 +130,9 @@ impl Net {
     pub fn is_mode(&self, f: Firing) -> bool
         ensures { Tells result (Mode (transition self.now f.transition).sizes f.mode) }
     {
-        let Some(t) = self.transitions.get(f.transition) else {
-            return false;
-        };
-        below(f.mode, t.sizes)
+        self.transitions
+            .get(f.transition)
+            .is_some_and(|t| below(f.mode, t.sizes))
     }
 
     // Whether the guard of a transition is true in a mode.
@@ -172,27 +173,26 @@ impl Net {
         &self,
         f: Firing,
         direction: Direction,
-        d: &D,
-        codes: &[i32],
+        weights: &Weights<D>,
     ) -> D::Value
-        ensures { Weighs (D.meaning d.now) codes.now (D.meaning d.now).nil (side self.now f.mode (arcs_of self.now f.transition direction)) (load self.now (arcs_of self.now f.transition direction)) result }
+        ensures { Weighs (D.meaning weights.now.domain.now) weights.now.codes.now (D.meaning weights.now.domain.now).nil (side self.now f.mode (arcs_of self.now f.transition direction)) (load self.now (arcs_of self.now f.transition direction)) result }
     {
         let evaluator = self.evaluator(&f.mode);
-        let mut sum = d.zero();
+        let mut sum = weights.domain.zero();
         for arc in self.arcs_of(f.transition, direction) {
-            (sum, _) = evaluator.weigh_bag(arc.bag.as_slice(), DEPTH, d, codes, arc.place, sum);
+            (sum, _) = evaluator.weigh_bag(arc.bag.as_slice(), DEPTH, weights, arc.place, sum);
         }
         sum
     }
 
     // The values before and after: of what a transition takes in a mode, and of what it puts.
-    pub fn sums<D: WeightDomain>(&self, f: Firing, d: &D, codes: &[i32]) -> (D::Value, D::Value)
-        ensures before { result.0 ≡ value_of (D.meaning d.now) codes.now (taken self.now f.transition f.mode) }
-        ensures after { result.1 ≡ value_of (D.meaning d.now) codes.now (given self.now f.transition f.mode) }
+    pub fn sums<D: WeightDomain>(&self, f: Firing, weights: &Weights<D>) -> (D::Value, D::Value)
+        ensures before { result.0 ≡ value_of (D.meaning weights.now.domain.now) weights.now.codes.now (taken self.now f.transition f.mode) }
+        ensures after { result.1 ≡ value_of (D.meaning weights.now.domain.now) weights.now.codes.now (given self.now f.transition f.mode) }
     {
         (
-            self.weigh(f, Direction::In, d, codes),
-            self.weigh(f, Direction::Out, d, codes),
+            self.weigh(f, Direction::In, weights),
+            self.weigh(f, Direction::Out, weights),
         )
     }
 }

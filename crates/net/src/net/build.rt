@@ -1,21 +1,29 @@
 // A net as it is read, command by command.
-ghost use Rattle.std.specs.Prelude.{◌≡◌, ◌+◌, ◌*◌};
+ghost use Rattle.std.specs.Prelude.{◌≡◌};
 ghost use Rattle.term.specs.Meaning.{of};
 ghost use Rattle.net.specs.Nets.{sig};
 
 use super::{CELLS, Net};
 use crate::parts::{Arc, Claim, Side, Transition};
 use domain::Kind;
-use format::{Code, Command, Context, Direction, place_size, variable_sizes};
+use format::{Code, Command, Context, Direction, variable_sizes};
 use std::alloc::{AllocError, Global};
-use term::{Arguments, BagOperation, Checker, Operation, Signature};
+use term::{Arguments, BagOperation, Checker, Operation, Signature, cell};
 
-// The number of the cell of a place and an element.
-fn cell(place: u8, element: u8) -> usize
-    ensures { result ≡ 64 * place + element }
-{
-    64 * place as usize + element as usize
-}
+// At most so many of each stand in a file.
+const SORTS: usize = 8;
+
+const OPERATIONS: usize = 32;
+
+const BAG_OPERATIONS: usize = 8;
+
+const PLACES: usize = 16;
+
+const TRANSITIONS: usize = 32;
+
+const ARCS: usize = 128;
+
+const CLAIMS: usize = 16;
 
 impl Net {
     // The empty net: sort 0 alone, which has two elements.
@@ -45,13 +53,13 @@ impl Net {
     // Whether one more command of this code would pass a limit.
     pub(crate) fn is_full(&self, code: Code) -> bool {
         match code {
-            Code::Sort => self.sizes.len() >= 8,
-            Code::Operation => self.operations.len() >= 32,
-            Code::BagOperation => self.bags.len() >= 8,
-            Code::Place => self.places.len() >= 16,
-            Code::Transition => self.transitions.len() >= 32,
-            Code::InArc | Code::OutArc => self.arc_count() >= 128,
-            Code::Claim => self.claims.len() >= 16,
+            Code::Sort => self.sizes.len() >= SORTS,
+            Code::Operation => self.operations.len() >= OPERATIONS,
+            Code::BagOperation => self.bags.len() >= BAG_OPERATIONS,
+            Code::Place => self.places.len() >= PLACES,
+            Code::Transition => self.transitions.len() >= TRANSITIONS,
+            Code::InArc | Code::OutArc => self.arc_count() >= ARCS,
+            Code::Claim => self.claims.len() >= CLAIMS,
             Code::Tokens | Code::Guard | Code::PlaceWeight | Code::ElementWeight | Code::End =>
                 false,
         }
@@ -174,9 +182,9 @@ impl Net {
     }
 
     // Gives one cell of the newest claim a code.
-    fn set_code(&mut self, place: u8, element: u8, code: i32) {
+    fn set_code(&mut self, cell: usize, code: i32) {
         if let Some(claim) = self.claims.last_mut()
-            && let Some(old) = claim.codes.get_mut(cell(place, element))
+            && let Some(old) = claim.codes.get_mut(cell)
         {
             *old = code;
         }
@@ -185,7 +193,7 @@ impl Net {
     // Gives all elements of a place a code in the newest claim.
     fn set_codes(&mut self, place: u8, code: i32) {
         let from = cell(place, 0);
-        let size = place_size(self.sizes.as_slice(), self.places.as_slice(), place) as usize;
+        let size = self.elements(place) as usize;
         if let Some(claim) = self.claims.last_mut()
             && let Some(old) = claim.codes.get_mut(from..from + size)
         {
@@ -193,8 +201,8 @@ impl Net {
         }
     }
 
-    fn set_tokens(&mut self, place: u8, element: u8, count: u16) {
-        if let Some(old) = self.initial.get_mut(cell(place, element)) {
+    fn set_tokens(&mut self, cell: usize, count: u16) {
+        if let Some(old) = self.initial.get_mut(cell) {
             *old = count;
         }
     }
@@ -218,7 +226,7 @@ impl Net {
                 place,
                 element,
                 count,
-            } => self.set_tokens(place, element, count),
+            } => self.set_tokens(cell(place, element), count),
             Command::Transition { sorts } => self.add_transition(sorts)?,
             Command::Guard { term } => self.add_guard(term)?,
             Command::Arc {
@@ -232,7 +240,7 @@ impl Net {
                 place,
                 element,
                 code,
-            } => self.set_code(place, element, code),
+            } => self.set_code(cell(place, element), code),
             Command::End => {}
         }
         Ok(())

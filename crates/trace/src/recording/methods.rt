@@ -82,6 +82,7 @@ impl OpenRecording {
     pub fn end(self, memory: &mut [u8]) -> Result<EndedRecording, (OpenRecording, Fault)>
         ensures { MatchResult result (λ e. (length memory.old ≡ self.room) × Closed self e memory.old memory.new) (λ p. (length memory.old ≢ self.room) × (p.0 ≡ self) × (number_of p.1 ≡ 11) × (memory.new ≡ memory.old)) }
     {
+        // no `?`: `self` goes back with the fault
         if let Err(fault) = measure(memory, self.room) {
             return Err((self, fault));
         }

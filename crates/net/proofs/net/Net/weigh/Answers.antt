@@ -7,15 +7,15 @@ use Rattle.net.proofs.net.Net.weigh.Goals as goal
 
 pub loop-arc-init : goal.loop-arc-init
 loop-arc-init g c =
-    let d = g.D.WeightDomain.meaning c.args.d.now in
-    let nothing : Weighs d c.args.codes.now d.nil (λ k. 0) 0 d.nil = weighs_nothing (g.met.D.WeightDomain.lawful c.args.d.now) c.args.codes.now d.nil (λ k. 0) 0 (λ k h. refl) in
+    let d = g.D.WeightDomain.meaning c.args.weights.now.domain.now in
+    let nothing : Weighs d c.args.weights.now.codes.now d.nil (λ k. 0) 0 d.nil = weighs_nothing (g.met.D.WeightDomain.lawful c.args.weights.now.domain.now) c.args.weights.now.codes.now d.nil (λ k. 0) 0 (λ k h. refl) in
     rw c.zero-sum.ensures nothing
 
 pub loop-arc-preserved : goal.loop-arc-preserved
 loop-arc-preserved g c =
-    let law = g.met.D.WeightDomain.lawful c.args.d.now in
-    let v = g.D.WeightDomain.meaning c.args.d.now in
-    let codes = c.args.codes.now in
+    let law = g.met.D.WeightDomain.lawful c.args.weights.now.domain.now in
+    let v = g.D.WeightDomain.meaning c.args.weights.now.domain.now in
+    let codes = c.args.weights.now.codes.now in
     let n = c.args.self.now in
     let m = c.args.f.mode in
     let items = c.arcs_of-arc-items.result.now in

@@ -10,7 +10,7 @@ returns-in_err-head-clause-value t c =
     rw (e.1, e.2) (no_front c.args.self.now c.args.depth c.args.want c.args.bytes.now c.in_err-head.field-0.0 c.in_err-head.ensures.value)
 
 pub returns-in-None-clause-passed : goal.returns-in-None-clause-passed
-returns-in-None-clause-passed t c = leaf c.args.self.now c.args.depth c.args.want c.args.bytes.now c.in_ok-head.head c.in_ok-head.ensures.value c.in_ok-head.ensures.shape c.in-None.is
+returns-in-None-clause-passed t c = leaf c.args.self.now c.args.depth c.args.want c.args.bytes.now c.in_ok-head.head c.in_ok-head.ensures.value c.in-None.is
 
 pub returns-in-One-clause-value : goal.returns-in-One-clause-value
 returns-in-One-clause-value t c = c.term.ensures.value ∙ asks c.args.self.now c.args.depth c.args.want c.args.bytes.now c.in_ok-head.head c.in_ok-head.ensures.value (One c.in-One.a) c.in-One.is
@@ -18,7 +18,7 @@ returns-in-One-clause-value t c = c.term.ensures.value ∙ asks c.args.self.now 
 pub returns-in-One-clause-passed : goal.returns-in-One-clause-passed
 returns-in-One-clause-passed t c =
     IfOk-weaker c.term.result _ _
-    (λ r p. unary c.args.self.now c.args.depth c.args.want c.args.bytes.now c.in_ok-head.head c.in_ok-head.ensures.value c.in_ok-head.ensures.shape c.in-One.a c.in-One.is r.now p) c.term.ensures.passed
+    (λ r p. unary c.args.self.now c.args.depth c.args.want c.args.bytes.now c.in_ok-head.head c.in_ok-head.ensures.value c.in-One.a c.in-One.is r.now p) c.term.ensures.passed
 
 pub returns-in_err-rest-in-Two-clause-value : goal.returns-in_err-rest-in-Two-clause-value
 returns-in_err-rest-in-Two-clause-value t c =
@@ -34,4 +34,4 @@ returns-in_ok-rest-in-Two-clause-value t c =
 pub returns-in_ok-rest-in-Two-clause-passed : goal.returns-in_ok-rest-in-Two-clause-passed
 returns-in_ok-rest-in-Two-clause-passed t c =
     IfOk-weaker c.term-in-Two-2.result _ _
-    (λ r p. binary c.args.self.now c.args.depth c.args.want c.args.bytes.now c.in_ok-head.head c.in_ok-head.ensures.value c.in_ok-head.ensures.shape c.in-Two.a c.in-Two.b c.in-Two.is c.in_ok-rest-in-Two.rest.now r.now c.in_ok-rest-in-Two.ensures.passed p) c.term-in-Two-2.ensures.passed
+    (λ r p. binary c.args.self.now c.args.depth c.args.want c.args.bytes.now c.in_ok-head.head c.in_ok-head.ensures.value c.in-Two.a c.in-Two.b c.in-Two.is c.in_ok-rest-in-Two.rest.now r.now c.in_ok-rest-in-Two.ensures.passed p) c.term-in-Two-2.ensures.passed

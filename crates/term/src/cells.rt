@@ -1,0 +1,8 @@
+ghost use Rattle.std.specs.Prelude.{◌≡◌, ◌+◌, ◌*◌};
+
+// The number of the cell of a place and an element: each place has 64 cells.
+pub fn cell(place: u8, element: u8) -> usize
+    ensures { result ≡ 64 * place + element }
+{
+    64 * place as usize + element as usize
+}
