@@ -1,1 +1,3 @@
 pub mod Zeros
+pub mod Walks
+pub mod Fired

@@ -1,1 +1,5 @@
 pub mod Counted
+pub mod Path
+pub mod Calls
+pub mod Standing
+pub mod Values

@@ -1,5 +1,5 @@
 -- The commands of a net file as plain values, and their numbers.
-use Rattle.std.specs.Prelude.{ℕ, cond, ◌==◌, List, [], ◌∷◌, ℤ, length, Ok, Err, Result, slice_index}
+use Rattle.std.specs.Prelude.{ℕ, cond, ◌==◌, List, ℤ, Ok, Err, Result}
 use Rattle.std.specs.Borrow.{Bor}
 use Rattle.domain.specs.Kinds.{kind_modulus, kind_number}
 use Rattle.term.specs.declared.fault.FileFault.{FileFault}
@@ -16,7 +16,7 @@ pub data Said : Type 0 where
   bag_operation : ℕ → ℕ → List ℕ → Said
   place : ℕ → Said
   tokens : ℕ → ℕ → ℕ → Said
-  transition : ℕ → List ℕ → Said
+  transition : List ℕ → Said
   guard : List ℕ → Said
   arc : Direction → ℕ → List ℕ → Said
   claim : ℕ → ℕ → Said
@@ -49,10 +49,6 @@ second (arguments.Two a b) = b
 abbrev pub arguments_of : ℕ → ℕ → ℕ → Arguments
 arguments_of n a b = cond (n == 0) arguments.None (cond (n == 1) (arguments.One a) (arguments.Two a b))
 
--- four sort bytes, 0 where there is no variable
-abbrev pub four : List ℕ → List ℕ
-four s = slice_index s 0 ∷ slice_index s 1 ∷ slice_index s 2 ∷ slice_index s 3 ∷ []
-
 -- what a command says
 abbrev pub said_of : Command → Said
 said_of (command.Sort n) = sort n
@@ -60,7 +56,7 @@ said_of (command.Operation a r t) = operation (arity a) (first a) (second a) r t
 said_of (command.BagOperation a r t) = bag_operation a r t.now
 said_of (command.Place s) = place s
 said_of (command.Tokens p e n) = tokens p e n
-said_of (command.Transition s) = transition (length s.now) (four s.now)
+said_of (command.Transition s) = transition s.now
 said_of (command.Guard t) = guard t.now
 said_of (command.Arc d p b) = arc d p b.now
 said_of (command.Claim k) = claim (kind_number k) (kind_modulus k)

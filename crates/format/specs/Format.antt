@@ -136,7 +136,7 @@ variable_sizes sizes n s =
 abbrev pub mode_count : List ℕ → ℕ
 mode_count v = (slice_index v 0 * slice_index v 1) * (slice_index v 2 * slice_index v 3)
 
--- a transition: number of variables, four sorts; the modes are counted at the last sort byte
+-- a transition: number of variables, four sorts, of which the first are those of the variables; the modes are counted at the last sort byte
 abbrev pub transition_at : List ℕ → List ℕ → ℕ → Read
 transition_at sizes bs ends =
     byte bs ends 1 (λ n. check (nat_le n 4) fail.Range (spot bs ends 1)
@@ -145,7 +145,7 @@ transition_at sizes bs ends =
     (byte bs ends 4 (λ c. check (fitting sizes (nat_lt 2 n) c) fail.Range (spot bs ends 4)
     (byte bs ends 5 (λ d. check (fitting sizes (nat_lt 3 n) d) fail.Range (spot bs ends 5)
     (check (nat_le (mode_count (variable_sizes sizes n (a ∷ b ∷ c ∷ d ∷ []))) 65536) fail.Modes (spot bs ends 5)
-    (said (transition n (a ∷ b ∷ c ∷ d ∷ [])) (drop 6 bs))))))))))))
+    (said (transition (take n (drop 2 bs))) (drop 6 bs))))))))))))
 
 -- the bytes of bs that stand before r, which is its end
 abbrev pub front_of : List ℕ → List ℕ → List ℕ
@@ -212,18 +212,31 @@ end_at bs ends =
     byte bs ends 0 (λ c.
     cond (nat_lt 1 (length bs)) (fault (record { fault = fail.Trailing; place = spot bs ends 1; stage = stage.File })) (said end (drop 1 bs)))
 
+-- what the operands of a command are read by: the sorts and operations so far, the sorts of the places and of the newest
+-- transition's variables, the kind of the newest claim, and the length of the file
+pub record Setting : Type 0 where
+  pub signature : Sig
+  pub places : List ℕ
+  pub variables : List ℕ
+  pub kind : Kind
+  pub ends : ℕ
+
+-- what a context in memory says
+abbrev pub setting_of : Context → Setting
+setting_of x = record { signature = of x.checker.signature; places = x.places.now; variables = x.checker.variables.now; kind = x.kind; ends = x.checker.ends }
+
 -- the operands of the command of a code; the code byte itself has been read, and a weight is one of the newest claim's kind
-abbrev pub parse_at : Context → Code → List ℕ → Read
-parse_at x code.Sort bs = sort_at bs x.checker.ends
-parse_at x code.Operation bs = operation_at x.checker.signature.sizes.now bs x.checker.ends
-parse_at x code.BagOperation bs = bag_operation_at x.checker.signature.sizes.now bs x.checker.ends
-parse_at x code.Place bs = place_at x.checker.signature.sizes.now bs x.checker.ends
-parse_at x code.Tokens bs = tokens_at x.checker.signature.sizes.now x.places.now bs x.checker.ends
-parse_at x code.Transition bs = transition_at x.checker.signature.sizes.now bs x.checker.ends
-parse_at x code.Guard bs = guard_at (of x.checker.signature) x.checker.variables.now bs x.checker.ends
-parse_at x code.InArc bs = arc_at (of x.checker.signature) x.places.now direction.In x.checker.variables.now bs x.checker.ends
-parse_at x code.OutArc bs = arc_at (of x.checker.signature) x.places.now direction.Out x.checker.variables.now bs x.checker.ends
-parse_at x code.Claim bs = claim_at bs x.checker.ends
-parse_at x code.PlaceWeight bs = place_weight_at x.places.now x.kind bs x.checker.ends
-parse_at x code.ElementWeight bs = element_weight_at x.checker.signature.sizes.now x.places.now x.kind bs x.checker.ends
-parse_at x code.End bs = end_at bs x.checker.ends
+abbrev pub parse_at : Setting → Code → List ℕ → Read
+parse_at x code.Sort bs = sort_at bs x.ends
+parse_at x code.Operation bs = operation_at x.signature.sizes bs x.ends
+parse_at x code.BagOperation bs = bag_operation_at x.signature.sizes bs x.ends
+parse_at x code.Place bs = place_at x.signature.sizes bs x.ends
+parse_at x code.Tokens bs = tokens_at x.signature.sizes x.places bs x.ends
+parse_at x code.Transition bs = transition_at x.signature.sizes bs x.ends
+parse_at x code.Guard bs = guard_at x.signature x.variables bs x.ends
+parse_at x code.InArc bs = arc_at x.signature x.places direction.In x.variables bs x.ends
+parse_at x code.OutArc bs = arc_at x.signature x.places direction.Out x.variables bs x.ends
+parse_at x code.Claim bs = claim_at bs x.ends
+parse_at x code.PlaceWeight bs = place_weight_at x.places x.kind bs x.ends
+parse_at x code.ElementWeight bs = element_weight_at x.signature.sizes x.places x.kind bs x.ends
+parse_at x code.End bs = end_at bs x.ends

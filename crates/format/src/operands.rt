@@ -2,7 +2,7 @@
 ghost use Rattle.std.specs.Prelude.{◌≡◌, ◌<◌, ◌≤◌, length, nat_le, IfSome, IfOk};
 ghost use Rattle.term.specs.Meaning.{of};
 ghost use Rattle.format.specs.Commands.{arguments_of, fault, seen};
-ghost use Rattle.format.specs.Format.{arc_at, bag_operation_at, claim_at, combinations, counts_at, element_weight_at, end_at, first_bad, fitting, front_of, guard_at, in_command, mode_count, operation_at, parse_at, parts_of, place_at, place_size, place_weight_at, size_of, sort_at, spot, table_at, tokens_at, transition_at, variable_sizes};
+ghost use Rattle.format.specs.Format.{arc_at, bag_operation_at, claim_at, combinations, counts_at, element_weight_at, end_at, first_bad, fitting, front_of, guard_at, in_command, mode_count, operation_at, parse_at, parts_of, place_at, place_size, place_weight_at, setting_of, size_of, sort_at, spot, table_at, tokens_at, transition_at, variable_sizes};
 ghost use Rattle.format.specs.Reads.{Reads};
 
 use crate::command::{Code, Command, Direction};
@@ -415,7 +415,7 @@ impl<'a> Context<'a> {
 
     // The command of the given code at the front of `bytes`, with its operands, and what follows it.
     pub fn parse<'f>(&self, code: Code, bytes: &'f [u8]) -> Parsed<'f>
-        ensures { Reads self.now bytes.now result (parse_at self.now code bytes.now) }
+        ensures { Reads self.now bytes.now result (parse_at (setting_of self.now) code bytes.now) }
     {
         match code {
             Code::Sort => self.sort(bytes),

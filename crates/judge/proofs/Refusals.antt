@@ -1,5 +1,5 @@
 -- On memory that fits, judging a claim that the net has fails at a code that is no weight, and for no other reason.
-use Rattle.std.proofs.Common.{◌≡◌, ℕ, ◌<◌, vec_len, Ok, Err, refl, ◌∙◌, arith}
+use Rattle.std.proofs.Common.{◌≡◌, ℕ, ◌<◌, vec_len, Ok, Err, Result, sym, refl, ◌∙◌, subst, arith}
 use Rattle.domain.specs.Domains.{equal, modulo, never_rises, siphon, turned}
 use Rattle.domain.specs.Meaning.{Meaning}
 use Rattle.domain.specs.declared.kind.Kind.{Kind}
@@ -7,9 +7,11 @@ use Rattle.domain.specs.declared.kind.Kind.TheVariants as kind
 use Rattle.term.specs.declared.fault.Fault.{Fault}
 use Rattle.term.specs.declared.fault.Fault.TheVariants as fault
 use Rattle.net.specs.declared.net.Net.{Net}
+use Rattle.lent.specs.declared.list.LentList.{LentList}
 use Rattle.net.specs.Nets.{IsKind, claim_of}
 use Rattle.judge.specs.Calls.{Called, Fits, Memory, SameLoans, lent}
-use Rattle.judge.specs.Kinds.{By, ByKind}
+use Rattle.judge.specs.Kinds.{By, ByKind, Outcome}
+use Rattle.judge.specs.Surveys.{Added, ByItsKind, Ready, Surveyed}
 use Rattle.judge.specs.declared.judging.Judge.{Judge}
 
 pub still_fits : (v w : Judge) → SameLoans v w → Fits (lent v) → Fits (lent w)
@@ -34,5 +36,17 @@ module _ (n : Net) (claim : ℕ) (m k : Memory) (fits : Fits m) (there : claim <
   by_kind kind.Trap e b = by (turned siphon) e b
   by_kind kind.Siphon e b = by siphon e b
 
-  pub refused : (e : Fault) → ((x : Kind) → IsKind n claim x → ByKind x n claim m k (Err e)) → e ≡ fault.NoWeight
-  refused e b = let x = (claim_of n claim).kind in by_kind x e (b x (record { there = there; is = refl }))
+  pub refused : (e : Fault) → ByItsKind n claim m k (Err e) → e ≡ fault.NoWeight
+  refused e b = by_kind (claim_of n claim).kind e b
+
+-- a claim that is judged for every kind that it has is judged by its kind
+pub by_its_kind : (n : Net) (claim : ℕ) (m k : Memory) (r : Result Outcome Fault) → claim < vec_len n.claims → ((x : Kind) → IsKind n claim x → ByKind x n claim m k r) → ByItsKind n claim m k r
+by_its_kind n claim m k r there b = b (claim_of n claim).kind (record { there = there; is = refl })
+
+-- a claim that is refused after others ends the survey
+pub stopped : (n : Net) (claim : ℕ) (m x k : Memory) (s t : LentList Outcome) (e : Fault) → Ready n m s → claim < vec_len n.claims → Fits x → Added n m x s t claim
+    → ByItsKind n claim x k (Err e) → Surveyed n m k s t (Err e)
+stopped n claim m x k s t e ready there fits added b =
+    let is = refused n claim x k fits there e b in
+    subst (λ (f : Fault). Surveyed n m k s t (Err f)) (sym is)
+    (ready, (claim, record { there = there; left = x; added = added; refused = subst (λ (f : Fault). ByItsKind n claim x k (Err f)) is b }))

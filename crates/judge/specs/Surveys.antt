@@ -1,30 +1,51 @@
--- What a survey answers: one verdict more on the sheet for each claim, or why not.
-use Rattle.std.specs.Prelude.{◌≡◌, ℕ, ◌+◌, ◌<◌, List, ◌++◌, length, Ok, Err, vec_len, Result, slice_index_or}
+-- Surveys: all claims judged by their kinds, one after the other, onto a sheet; or why not.
+use Rattle.std.specs.Prelude.{◌≡◌, ℕ, zero, suc, ◌+◌, ◌<◌, ◌≤◌, List, [], ◌∷◌, ◌++◌, length, drop, Ok, Err, vec_len, Result}
 use Rattle.lent.specs.Held.{held, memory}
 use Rattle.lent.specs.declared.list.LentList.{LentList}
-use Rattle.domain.specs.declared.kind.Kind.{Kind}
 use Rattle.term.specs.declared.fault.Fault.{Fault}
 use Rattle.term.specs.declared.fault.Fault.TheVariants as fault
 use Rattle.net.specs.declared.net.Net.{Net}
-use Rattle.net.specs.Nets.{IsKind}
+use Rattle.net.specs.Nets.{claim_of}
 use Rattle.judge.specs.Calls.{Fits, Memory}
 use Rattle.judge.specs.Kinds.{ByKind, Outcome}
 
--- the verdict of a claim by its kind, judged on some memory
-abbrev pub Answers : Net → ℕ → Outcome → Type 0
-Answers n claim x = (m : Memory) × ((k : Memory) × ((y : Kind) → IsKind n claim y → ByKind y n claim m k (Ok x)))
+-- judging a claim by the kind that it has
+abbrev pub ByItsKind : Net → ℕ → Memory → Memory → Result Outcome Fault → Type 0
+ByItsKind n claim m k r = ByKind (claim_of n claim).kind n claim m k r
 
--- the sheet t is the sheet s with the verdicts of the first j claims behind
-pub record Added (n : Net) (s t : LentList Outcome) (j : ℕ) : Type 0 where
-  pub verdicts : List Outcome
-  pub behind : held t ≡ held s ++ verdicts
-  pub long : length verdicts ≡ j
-  pub each : (i : ℕ) (x : Outcome) → i < j → Answers n i (slice_index_or verdicts i x)
+-- judging the first c claims leads from the memory m to the memory k, with these outcomes
+unfoldable pub Judges : Net → Memory → ℕ → Memory → List Outcome → Type 0
+Judges n m zero k os = (k ≡ m) × (os ≡ [])
+Judges n m (suc c) k os = (x : Memory) × (first : List Outcome) × (o : Outcome) × (Judges n m c x first × ByItsKind n c x k (Ok o) × (os ≡ first ++ o ∷ []))
+
+-- the sheet t holds what s held and then these outcomes, and the rest of its memory is as it was
+pub record Noted (s t : LentList Outcome) (os : List Outcome) : Type 0 where
+  pub holds : held t ≡ held s ++ os
+  pub long : length (memory t) ≡ length (memory s)
+  pub rest : drop (length (held t)) (memory t) ≡ drop (length (held t)) (memory s)
+
+-- the first c claims are judged onto the sheet
+pub record Added (n : Net) (m k : Memory) (s t : LentList Outcome) (c : ℕ) : Type 0 where
+  pub outcomes : List Outcome
+  pub judged : Judges n m c k outcomes
+  pub noted : Noted s t outcomes
+
+-- the memory has the stated lengths, and the sheet has room for all claims
+pub record Ready (n : Net) (m : Memory) (s : LentList Outcome) : Type 0 where
+  pub fits : Fits m
+  pub room : length (held s) + vec_len n.claims ≤ length (memory s)
+
+-- the claims before this one are judged onto the sheet, and a code of this one is no weight of its kind
+pub record StopsAt (n : Net) (m k : Memory) (s t : LentList Outcome) (claim : ℕ) : Type 0 where
+  pub there : claim < vec_len n.claims
+  pub left : Memory
+  pub added : Added n m left s t claim
+  pub refused : ByItsKind n claim left k (Err fault.NoWeight)
 
 -- from the memory m and the sheet s to the memory k and the sheet t
 abbrev pub Surveyed : Net → Memory → Memory → LentList Outcome → LentList Outcome → Result (Unit {0}) Fault → Type 0
-Surveyed n m k s t (Ok u) = Fits m × Added n s t (vec_len n.claims)
+Surveyed n m k s t (Ok u) = Ready n m s × Added n m k s t (vec_len n.claims)
 Surveyed n m k s t (Err fault.Memory) = (Fits m → ⊥) × (k ≡ m) × (t ≡ s)
 Surveyed n m k s t (Err fault.TrailFull) = Fits m × (length (memory s) < length (held s) + vec_len n.claims) × (k ≡ m) × (t ≡ s)
-Surveyed n m k s t (Err fault.NoWeight) = Fits m
+Surveyed n m k s t (Err fault.NoWeight) = Ready n m s × ((claim : ℕ) × StopsAt n m k s t claim)
 Surveyed n m k s t (Err e) = ⊥

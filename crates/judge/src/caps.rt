@@ -1,6 +1,9 @@
+ghost use Rattle.std.specs.Prelude.{◌≡◌, ◌<◌, length};
 ghost use Rattle.domain.specs.Meaning.{Tells};
+ghost use Rattle.term.specs.Worth.{value_of};
+ghost use Rattle.net.specs.Runs.{initial};
 ghost use Rattle.judge.specs.Calls.{SameLoans, lent};
-ghost use Rattle.judge.specs.Caps.{AllPlain, Asked, BegunAt};
+ghost use Rattle.judge.specs.Caps.{AllPlain, Asked, BegunAt, CapIs, Limits};
 
 use crate::judging::Judge;
 use domain::{Measuring, WeightDomain, add_weight};
@@ -14,13 +17,28 @@ impl<'n, 'm> Judge<'n, 'm> {
         self.codes().iter().all(|code| m.is_plain(&m.weight(*code)))
     }
 
-    // The value of the initial marking.
-    fn initial_value<D: WeightDomain>(&self, d: &D) -> D::Value {
+    // The value of the initial marking. Its tokens are few enough that it stays below the largest sum.
+    fn initial_value<D: WeightDomain>(&self, d: &D) -> D::Value
+        requires { length self.now.codes.now ≡ 1024 }
+        ensures { result ≡ value_of (D.meaning d.now) self.now.codes.now (initial self.now.net.now) }
+    {
         let mut sum = d.zero();
         for (code, count) in self.codes().iter().zip(self.net.initial()) {
             sum = add_weight(d, &sum, u32::from(*count), *code);
         }
         sum
+    }
+
+    // How many copies of a cell's weight the value of the initial marking has room for.
+    fn room<M: Measuring>(&self, cell: usize, m: &M) -> Option<u64>
+        requires long { length self.now.codes.now ≡ 1024 }
+        requires cell { cell < 1024 }
+        requires plain { AllPlain (M.WeightDomain.meaning m.now) (M.plain m.now) self.now.codes.now }
+        ensures { CapIs (M.WeightDomain.meaning m.now) (M.plain m.now) self.now.codes.now self.now.net.now cell result }
+    {
+        let v = self.initial_value(m);
+        let w = m.weight(self.codes()[cell]);
+        m.largest(&v, &w)
     }
 
     // Whether a call for a cap can begin.
@@ -43,6 +61,7 @@ impl<'n, 'm> Judge<'n, 'm> {
         m: &M,
     ) -> Result<Option<u64>, Fault>
         ensures asked { Asked (M.WeightDomain.meaning m.now) (M.plain m.now) self.old.net.now claim cell (lent self.old) (lent self.new) result }
+        ensures limits { Limits self.old.net.now cell result }
         ensures same { SameLoans self.old self.new }
     {
         self.begin_cap(claim, cell)?;
@@ -54,8 +73,6 @@ impl<'n, 'm> Judge<'n, 'm> {
         if self.judge_codes(m).is_err() {
             return Err(Fault::NotAccepted);
         }
-        let v = self.initial_value(m);
-        let w = m.weight(self.codes()[cell]);
-        Ok(m.largest(&v, &w))
+        Ok(self.room(cell, m))
     }
 }

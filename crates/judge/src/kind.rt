@@ -3,7 +3,7 @@ ghost use Rattle.domain.specs.Domains.{equal};
 ghost use Rattle.net.specs.Nets.{IsKind};
 ghost use Rattle.lent.specs.Held.{loan};
 ghost use Rattle.judge.specs.Calls.{SameLoans, lent};
-ghost use Rattle.judge.specs.Caps.{Asked, AskedByKind};
+ghost use Rattle.judge.specs.Caps.{Asked, AskedByKind, Limits};
 ghost use Rattle.judge.specs.Kinds.{By, ByKind};
 ghost use Rattle.judge.specs.Surveys.{Surveyed};
 
@@ -44,6 +44,7 @@ impl<'n, 'm> Judge<'n, 'm> {
     pub fn cap_by_kind(&mut self, claim: usize, cell: usize) -> Result<Option<u64>, Fault>
         ensures kinds { (k : Kind) → IsKind self.old.net.now claim k → AskedByKind k self.old.net.now claim cell (lent self.old) (lent self.new) result }
         ensures none { vec_len self.old.net.now.claims ≤ claim → Asked equal (λ v. pos 0 ≤ℤ v) self.old.net.now claim cell (lent self.old) (lent self.new) result }
+        ensures limits { Limits self.old.net.now cell result }
         ensures same { SameLoans self.old self.new }
     {
         match self.net.kind(claim) {
@@ -58,7 +59,7 @@ impl<'n, 'm> Judge<'n, 'm> {
         }
     }
 
-    // Judges every claim by its kind, and adds one verdict each to the sheet.
+    // Judges every claim by its kind, one after the other, and adds one verdict each to the sheet.
     pub fn survey(&mut self, sheet: &mut LentList<Outcome>) -> Result<(), Fault>
         ensures surveyed { Surveyed self.old.net.now (lent self.old) (lent self.new) sheet.old sheet.new result }
         ensures same { SameLoans self.old self.new }

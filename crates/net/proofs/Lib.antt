@@ -1,3 +1,7 @@
+pub mod Arcs
+pub mod Coded
 pub mod Loaded
+pub mod Renewed
 pub mod Sides
 pub mod Tallied
+pub mod Turns

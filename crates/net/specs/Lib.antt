@@ -1,3 +1,5 @@
 pub mod Spans
 pub mod Nets
 pub mod Runs
+pub mod System
+pub mod Reading

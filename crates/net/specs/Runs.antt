@@ -25,3 +25,11 @@ Run n a (f ∷ fs) b = (x : Marking) × (Fires n f.0 f.1 a x × Run n x fs b)
 -- the initial marking
 abbrev pub initial : Net → Marking
 initial n c = slice_index n.initial c
+
+-- a run of firings leads from the initial marking to this one
+abbrev pub Reachable : Net → Marking → Type 0
+Reachable n m = (fs : List (ℕ × List ℕ)) × Run n (initial n) fs m
+
+-- no marking that can be reached has more than k tokens in the cell
+abbrev pub Bounded : Net → ℕ → ℕ → Type 0
+Bounded n cell k = (m : Marking) → Reachable n m → m cell ≤ k

@@ -1,4 +1,4 @@
-ghost use Rattle.std.specs.Prelude.{◌≡◌, ◌≤◌};
+ghost use Rattle.std.specs.Prelude.{◌≡◌, ◌≤◌, ◌++◌, ◌∷◌, [], OnOk};
 ghost use Rattle.net.specs.Spans.{spans, towards};
 
 use crate::net::CELLS;
@@ -50,7 +50,9 @@ impl Side {
 
     // Adds an arc. Bags of more bytes than the longest file has are not taken: they count as want of memory, since no
     // file can come to them.
-    pub(crate) fn add(&mut self, arc: Arc) -> Result<(), AllocError> {
+    pub(crate) fn add(&mut self, arc: Arc) -> Result<(), AllocError>
+        ensures { OnOk result (self.new.arcs.items ≡ self.old.arcs.items ++ arc ∷ []) }
+    {
         if arc.bag.len() > LONGEST - self.span() {
             return Err(AllocError);
         }

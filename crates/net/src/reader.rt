@@ -1,4 +1,7 @@
 ghost use Rattle.std.specs.Prelude.{◌≡◌, ◌<◌, length, OnOk};
+ghost use Rattle.net.specs.Reading.{Fills, Reads, Steps, empty, opening, opens, step as step_at};
+ghost use Rattle.net.specs.System.{system};
+ghost use Rattle.net.specs.declared.reader.ReadError.TheVariants.{File, Memory};
 
 use crate::net::Net;
 use format::{Code, Command, Order, refused};
@@ -16,12 +19,16 @@ pub enum ReadError {
 }
 
 impl From<FileFault> for ReadError {
+    ghost from_gives = { λ f e. e ≡ File f };
+
     fn from(f: FileFault) -> ReadError {
         ReadError::File(f)
     }
 }
 
 impl From<AllocError> for ReadError {
+    ghost from_gives = { λ _ e. e ≡ Memory };
+
     fn from(_e: AllocError) -> ReadError {
         ReadError::Memory
     }
@@ -38,7 +45,9 @@ pub struct Reader<'f> {
 impl<'f> Reader<'f> {
     // The code of the next command, which opens its section and must have room in the net.
     fn code(&mut self, net: &Net) -> Result<Code, FileFault>
-        ensures { self.new.rest.now ≡ self.old.rest.now }
+        ensures value { opens result self.new.order.section ≡ opening self.old.order.section (system net.now) self.old.rest.now self.old.ends }
+        ensures rest { self.new.rest.now ≡ self.old.rest.now }
+        ensures ends { self.new.ends ≡ self.old.ends }
     {
         let at = self.ends.saturating_sub(self.rest.len());
         let byte = self.rest.first().ok_or(refused(Fault::Ends, self.ends))?;
@@ -54,7 +63,9 @@ impl<'f> Reader<'f> {
 
     // Reads the next command and carries it out on the net. False at the end.
     fn step(&mut self, net: &mut Net) -> Result<bool, ReadError>
-        ensures { OnOk result (length self.new.rest.now < length self.old.rest.now) }
+        ensures value { Steps result self.new.order.section (system net.new) self.new.rest.now (step_at self.old.order.section (system net.old) self.old.rest.now self.old.ends) }
+        ensures shorter { OnOk result (length self.new.rest.now < length self.old.rest.now) }
+        ensures ends { self.new.ends ≡ self.old.ends }
     {
         let code = self.code(net)?;
         let (command, rest) = net.context(self.ends).parse(code, self.rest)?;
@@ -64,8 +75,11 @@ impl<'f> Reader<'f> {
     }
 }
 
-// Carries out every command of a file.
-fn fill(net: &mut Net, file: &[u8]) -> Result<(), ReadError> {
+// Carries out every command of a file on the empty net.
+fn fill(net: &mut Net, file: &[u8]) -> Result<(), ReadError>
+    requires { system net.old ≡ empty }
+    ensures { Fills result file.now (system net.new) }
+{
     if file.len() > LONGEST {
         return Err(ReadError::File(FileFault {
             fault: Fault::TooLong,
@@ -83,7 +97,13 @@ fn fill(net: &mut Net, file: &[u8]) -> Result<(), ReadError> {
 }
 
 // Fills the caller's net from a file. A fault leaves the empty net there.
-pub fn read(net: &mut Net, file: &[u8]) -> Result<(), ReadError> {
+pub fn read(net: &mut Net, file: &[u8]) -> Result<(), ReadError>
+    ensures { Reads result file.now (system net.new) }
+{
     net.clear();
-    fill(net, file).inspect_err(|_| net.clear())
+    let answer = fill(net, file);
+    if answer.is_err() {
+        net.clear();
+    }
+    answer
 }

@@ -73,6 +73,7 @@ impl<'c> Counts<'c> {
     // Makes the counts those of a marking.
     pub fn reset(&mut self, start: &[u16; CELLS])
         ensures value { (k : ℕ) → k < 1024 → tokens self.new k ≡ slice_index start.now k }
+        ensures small { (k : ℕ) → k < 1024 → tokens self.new k < 2 ^ 16 }
         ensures loan { loan self.new ≡ loan self.old }
     {
         self.cells.copy_from_slice(start);

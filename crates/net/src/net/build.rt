@@ -1,7 +1,12 @@
 // A net as it is read, command by command.
-ghost use Rattle.std.specs.Prelude.{◌≡◌};
+ghost use Rattle.std.specs.Prelude.{◌≡◌, ◌-◌, ◌^◌, min, IfOk, OnOk, slice_set};
+ghost use Rattle.domain.specs.Kinds.{kind_modulus, kind_number};
 ghost use Rattle.term.specs.Meaning.{of};
-ghost use Rattle.net.specs.Nets.{sig};
+ghost use Rattle.format.specs.Commands.{arc, arity, bag_operation, claim, element_weight, first, guard, operation, place_weight, said_of, second, tokens, transition};
+ghost use Rattle.format.specs.Format.{setting_of};
+ghost use Rattle.net.specs.Nets.{no_claim, sig};
+ghost use Rattle.net.specs.Reading.{add, arc_count, coded, empty, full, linked, newest, no_transition, setting};
+ghost use Rattle.net.specs.System.{arc_told, system, transition_told};
 
 use super::{CELLS, Net};
 use crate::parts::{Arc, Claim, Side, Transition};
@@ -25,9 +30,34 @@ const ARCS: usize = 128;
 
 const CLAIMS: usize = 16;
 
+impl Transition {
+    // Adds an arc that goes one way.
+    fn add(&mut self, direction: Direction, arc: Arc) -> Result<(), AllocError>
+        ensures { OnOk result (transition_told self.new ≡ linked direction (arc_told arc) (transition_told self.old)) }
+    {
+        match direction {
+            Direction::In => self.takes.add(arc),
+            Direction::Out => self.puts.add(arc),
+        }
+    }
+}
+
+impl Claim {
+    // Gives a cell a code, if there is such a cell.
+    fn set(&mut self, cell: usize, code: i32)
+        ensures { self.new ≡ coded (λ xs. slice_set xs cell code) self.old }
+    {
+        if cell < CELLS {
+            self.codes[cell] = code;
+        }
+    }
+}
+
 impl Net {
     // The empty net: sort 0 alone, which has two elements.
-    pub fn new(heap: Global) -> Result<Net, AllocError> {
+    pub fn new(heap: Global) -> Result<Net, AllocError>
+        ensures { IfOk result (λ n. system n ≡ empty) }
+    {
         Ok(Net {
             sizes: vec![in heap; 2]?,
             operations: Vec::new(heap),
@@ -40,7 +70,9 @@ impl Net {
     }
 
     // Back to the empty net.
-    pub(crate) fn clear(&mut self) {
+    pub(crate) fn clear(&mut self)
+        ensures { system self.new ≡ empty }
+    {
         self.sizes.truncate(1);
         self.operations.clear();
         self.bags.clear();
@@ -51,7 +83,9 @@ impl Net {
     }
 
     // Whether one more command of this code would pass a limit.
-    pub(crate) fn is_full(&self, code: Code) -> bool {
+    pub(crate) fn is_full(&self, code: Code) -> bool
+        ensures { result ≡ full (system self.now) code }
+    {
         match code {
             Code::Sort => self.sizes.len() >= SORTS,
             Code::Operation => self.operations.len() >= OPERATIONS,
@@ -66,7 +100,9 @@ impl Net {
     }
 
     // How many arcs there are.
-    fn arc_count(&self) -> usize {
+    fn arc_count(&self) -> usize
+        ensures { result ≡ min (arc_count (system self.now)) (2 ^ 64 - 1) }
+    {
         self.transitions.iter().fold(
             0,
             |n: usize, t| n
@@ -86,7 +122,9 @@ impl Net {
     }
 
     // What the operands of the next command are read by, in a file of `ends` bytes.
-    pub(crate) fn context(&self, ends: usize) -> Context<'_> {
+    pub(crate) fn context(&self, ends: usize) -> Context<'_>
+        ensures { setting_of result ≡ setting (system self.now) ends }
+    {
         Context {
             checker: Checker {
                 signature: self.signature(),
@@ -99,12 +137,16 @@ impl Net {
     }
 
     // The sorts of the newest transition's variables.
-    fn variables(&self) -> &[u8] {
+    fn variables(&self) -> &[u8]
+        ensures { result.now ≡ (newest (system self.now).transitions no_transition).sorts }
+    {
         self.transitions.last().map_or(&[], |t| t.sorts.as_slice())
     }
 
     // The kind of the newest claim.
-    fn last_kind(&self) -> Kind {
+    fn last_kind(&self) -> Kind
+        ensures { result ≡ (newest (system self.now).claims no_claim).kind }
+    {
         self.claims.last().map_or(Kind::Equal, |c| c.kind)
     }
 
@@ -113,7 +155,9 @@ impl Net {
         arguments: Arguments,
         res: u8,
         table: &[u8],
-    ) -> Result<(), AllocError> {
+    ) -> Result<(), AllocError>
+        ensures { OnOk result (system self.new ≡ add (system self.old) (operation (arity arguments) (first arguments) (second arguments) res table.now)) }
+    {
         let heap = *self.operations.allocator();
         self.operations.push(Operation {
             arguments,
@@ -123,7 +167,9 @@ impl Net {
         Ok(())
     }
 
-    fn add_bag_operation(&mut self, argument: u8, res: u8, table: &[u8]) -> Result<(), AllocError> {
+    fn add_bag_operation(&mut self, argument: u8, res: u8, table: &[u8]) -> Result<(), AllocError>
+        ensures { OnOk result (system self.new ≡ add (system self.old) (bag_operation argument res table.now)) }
+    {
         let heap = *self.bags.allocator();
         self.bags.push(BagOperation {
             argument,
@@ -133,7 +179,9 @@ impl Net {
         Ok(())
     }
 
-    fn add_transition(&mut self, sorts: &[u8]) -> Result<(), AllocError> {
+    fn add_transition(&mut self, sorts: &[u8]) -> Result<(), AllocError>
+        ensures { OnOk result (system self.new ≡ add (system self.old) (transition sorts.now)) }
+    {
         let heap = *self.transitions.allocator();
         self.transitions.push(Transition {
             sorts: sorts.to_vec(heap)?,
@@ -150,7 +198,9 @@ impl Net {
     }
 
     // Gives the newest transition a guard.
-    fn add_guard(&mut self, term: &[u8]) -> Result<(), AllocError> {
+    fn add_guard(&mut self, term: &[u8]) -> Result<(), AllocError>
+        ensures { OnOk result (system self.new ≡ add (system self.old) (guard term.now)) }
+    {
         let term = term.to_vec(*self.transitions.allocator())?;
         if let Some(t) = self.transitions.last_mut() {
             t.guard = Some(term);
@@ -159,7 +209,9 @@ impl Net {
     }
 
     // Gives the newest transition an arc.
-    fn add_arc(&mut self, direction: Direction, place: u8, bag: &[u8]) -> Result<(), AllocError> {
+    fn add_arc(&mut self, direction: Direction, place: u8, bag: &[u8]) -> Result<(), AllocError>
+        ensures { OnOk result (system self.new ≡ add (system self.old) (arc direction place bag.now)) }
+    {
         let arc = Arc {
             place,
             bag: bag.to_vec(*self.transitions.allocator())?,
@@ -167,13 +219,12 @@ impl Net {
         let Some(t) = self.transitions.last_mut() else {
             return Ok(());
         };
-        match direction {
-            Direction::In => t.takes.add(arc),
-            Direction::Out => t.puts.add(arc),
-        }
+        t.add(direction, arc)
     }
 
-    fn add_claim(&mut self, kind: Kind) -> Result<(), AllocError> {
+    fn add_claim(&mut self, kind: Kind) -> Result<(), AllocError>
+        ensures { OnOk result (system self.new ≡ add (system self.old) (claim (kind_number kind) (kind_modulus kind))) }
+    {
         self.claims.push(Claim {
             kind,
             codes: [0; CELLS],
@@ -182,33 +233,36 @@ impl Net {
     }
 
     // Gives one cell of the newest claim a code.
-    fn set_code(&mut self, cell: usize, code: i32) {
-        if let Some(claim) = self.claims.last_mut()
-            && let Some(old) = claim.codes.get_mut(cell)
-        {
-            *old = code;
+    fn set_code(&mut self, place: u8, element: u8, code: i32)
+        ensures { system self.new ≡ add (system self.old) (element_weight place element code) }
+    {
+        if let Some(claim) = self.claims.last_mut() {
+            claim.set(cell(place, element), code);
         }
     }
 
     // Gives all elements of a place a code in the newest claim.
-    fn set_codes(&mut self, place: u8, code: i32) {
-        let from = cell(place, 0);
-        let size = self.elements(place) as usize;
-        if let Some(claim) = self.claims.last_mut()
-            && let Some(old) = claim.codes.get_mut(from..from + size)
-        {
-            old.fill(code);
+    fn set_codes(&mut self, place: u8, code: i32)
+        ensures { system self.new ≡ add (system self.old) (place_weight place code) }
+    {
+        for element in 0..self.elements(place) {
+            self.set_code(place, element, code);
         }
     }
 
-    fn set_tokens(&mut self, cell: usize, count: u16) {
-        if let Some(old) = self.initial.get_mut(cell) {
-            *old = count;
+    fn set_tokens(&mut self, place: u8, element: u8, count: u16)
+        ensures { system self.new ≡ add (system self.old) (tokens place element count) }
+    {
+        let at = cell(place, element);
+        if at < CELLS {
+            self.initial[at] = count;
         }
     }
 
     // Carries out a command that was read.
-    pub(crate) fn carry_out(&mut self, command: Command) -> Result<(), AllocError> {
+    pub(crate) fn carry_out(&mut self, command: Command) -> Result<(), AllocError>
+        ensures { OnOk result (system self.new ≡ add (system self.old) (said_of command.entry)) }
+    {
         match command {
             Command::Sort { size } => self.sizes.push(size)?,
             Command::Operation {
@@ -226,7 +280,7 @@ impl Net {
                 place,
                 element,
                 count,
-            } => self.set_tokens(cell(place, element), count),
+            } => self.set_tokens(place, element, count),
             Command::Transition { sorts } => self.add_transition(sorts)?,
             Command::Guard { term } => self.add_guard(term)?,
             Command::Arc {
@@ -240,7 +294,7 @@ impl Net {
                 place,
                 element,
                 code,
-            } => self.set_code(cell(place, element), code),
+            } => self.set_code(place, element, code),
             Command::End => {}
         }
         Ok(())

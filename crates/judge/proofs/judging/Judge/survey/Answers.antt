@@ -1,26 +1,54 @@
-use Rattle.std.proofs.Common.{◌≡◌, ◌++◌, ◌∷◌, [], ap, length, arith, rules}
-use Rattle.std.proofs.lemmas.List.{length-append}
+use Rattle.std.proofs.Common.{◌≡◌, ℕ, ◌<◌, ◌++◌, ◌∷◌, [], length, set, vec_len, subst, arith, rules, length-take}
 use Rattle.std.proofs.lemmas.Result.{err_from_is_err_and}
-use Rattle.lent.specs.Held.{held}
+use Rattle.lent.specs.Held.{held, memory}
 use Rattle.judge.specs.Calls.{lent}
-use Rattle.judge.proofs.Refusals.{refused, still_fits}
-use Rattle.judge.proofs.Sheets.{added_more}
+use Rattle.judge.specs.Surveys.{Added}
+use Rattle.judge.proofs.Refusals.{by_its_kind, still_fits, stopped}
+use Rattle.judge.proofs.Sheets.{added_more, added_none, still_room}
 use Rattle.judge.proofs.judging.Judge.survey.Goals as goal
+
+pub loop-claim-init : goal.loop-claim-init
+loop-claim-init c =
+    let sheet = c.args.sheet.now in
+    record {
+      same = search rules;
+      named = search rules;
+      ready = record { fits = c.if-not-is_measured.ensures; room = omega (arith, length-take sheet.len (memory sheet)) };
+      added = added_none c.args.self.now.net.now (lent c.args.self.now) sheet;
+    }
 
 pub returns-in_err-outcome-clause-surveyed : goal.returns-in_err-outcome-clause-surveyed
 returns-in_err-outcome-clause-surveyed c =
     let p = err_from_is_err_and c.from_residual.result c.from_residual.ensures.1 in
-    let fits = c.if-not-is_measured.ensures in
-    let e = refused c.args.self.now.net.now c.loop-claim.claim (lent c.loop-claim.self) (lent c.judge_by_kind.new.self) (still_fits _ _ c.loop-claim.invariant.same fits) (omega (arith, c.claims-claim-end.ensures)) c.in_err-outcome.field-0.0 (rw c.loop-claim.invariant.same.net at c.in_err-outcome.ensures.kinds) in
-    rw (p.1, p.2, e) fits
+    let n = c.args.self.now.net.now in
+    let i = c.loop-claim.claim in
+    let inv = c.loop-claim.invariant in
+    let there : i < vec_len n.claims = omega (arith, c.claims-claim-end.ensures) in
+    rw (p.1, p.2) (stopped n i (lent c.args.self.now) (lent c.loop-claim.self) (lent c.judge_by_kind.new.self) c.args.sheet.now c.loop-claim.sheet c.in_err-outcome.field-0.0 inv.ready there
+    (still_fits _ _ inv.same inv.ready.fits) inv.added (by_its_kind n i _ _ _ there (rw inv.same.net at c.in_err-outcome.ensures.kinds)))
 
 pub loop-claim-preserved : goal.loop-claim-preserved
 loop-claim-preserved c =
-    let e : held c.push.new.self ≡ held c.loop-claim.sheet ++ c.in_ok-outcome.outcome ∷ [] = search rules in
+    let n = c.args.self.now.net.now in
+    let i = c.loop-claim.claim in
+    let inv = c.loop-claim.invariant in
+    let s = c.loop-claim.sheet in
+    let t = c.push.new.self in
+    let there : i < vec_len n.claims = omega (arith, c.claims-claim-end.ensures) in
+    let room : length (held s) < length (memory s) = still_room n (lent c.args.self.now) c.args.sheet.now (lent c.loop-claim.self) s i inv.ready inv.added there in
+    let behind : held t ≡ held s ++ c.in_ok-outcome.outcome ∷ [] = search rules in
+    let written : memory t ≡ set (memory s) (length (held s)) c.in_ok-outcome.outcome = search rules in
     record {
       same = search rules;
       named = search rules;
-      more = omega (arith, ap length e, length-append (held c.loop-claim.sheet) (c.in_ok-outcome.outcome ∷ []));
-      added = added_more _ _ _ _ _ _ e (lent c.loop-claim.self, (lent c.judge_by_kind.new.self, rw c.loop-claim.invariant.same.net at c.in_ok-outcome.ensures.kinds)) c.loop-claim.invariant.added;
-      room = search rules;
+      ready = inv.ready;
+      added = added_more n (lent c.args.self.now) c.args.sheet.now (lent c.loop-claim.self) _ s t i _ inv.added
+          (by_its_kind n i _ _ _ there (rw inv.same.net at c.in_ok-outcome.ensures.kinds)) behind written;
     }
+
+pub returns-clause-surveyed : goal.returns-clause-surveyed
+returns-clause-surveyed c =
+    let n = c.args.self.now.net.now in
+    let inv = c.loop-claim.invariant in
+    let all : c.loop-claim.claim ≡ vec_len n.claims = omega (arith, c.claims-claim-end.ensures) in
+    (inv.ready, subst (λ (i : ℕ). Added n (lent c.args.self.now) (lent c.loop-claim.self) c.args.sheet.now c.loop-claim.sheet i) all inv.added)

@@ -1,0 +1,94 @@
+-- From what is counted cell by cell in memory to firings and their faults.
+use Rattle.std.proofs.Common.{◌≡◌, ℕ, ◌+◌, ◌-◌, ◌^◌, ◌<◌, ◌≤◌, Bool, true, false, ltb, length, Ok, Err, Result, get_or, refl, subst, arith}
+use Rattle.std.proofs.lemmas.Bool.Decides.{nat_tests}
+use Rattle.lent.specs.declared.list.LentList.{LentList}
+use Rattle.term.specs.Worth.{Marking}
+use Rattle.term.specs.declared.fault.Fault.{Fault}
+use Rattle.term.specs.declared.fault.Fault.TheVariants as fault
+use Rattle.net.specs.declared.firing.Firing.{Firing}
+use Rattle.net.specs.declared.net.Net.{Net}
+use Rattle.net.specs.Nets.{given, taken}
+use Rattle.net.specs.Runs.{Fires, cells}
+use Rattle.bench.specs.Calls.{Checked, FireCalled, FireRefused, Lacking, Lent, Lowest, Nowhere, Open, Passing, Roomy, lent, marking}
+use Rattle.bench.specs.Counted.{Counted, changed, tokens}
+use Rattle.bench.specs.Path.{NeverFull, Small}
+use Rattle.bench.specs.declared.change.Change.{Change}
+use Rattle.bench.specs.declared.counts.Counts.{Counts}
+use Rattle.bench.proofs.Walks.{Led, reachable-next}
+
+-- what is known of a change that a firing makes, on counts that fit sixteen bits
+pub record Sized (n : Net) (f : Firing) (k : Counts) (d : Change) : Type 0 where
+  pub takes : Counted d.takes (taken n f.transition f.mode)
+  pub puts : Counted d.puts (given n f.transition f.mode)
+  pub small : Small (tokens k)
+
+module _ {n : Net} {f : Firing} {k : Counts} {d : Change} (s : Sized n f k d) where
+  enough : (c : ℕ) → c < 1024 → get_or d.takes c 0 ≤ tokens k c → taken n f.transition f.mode c ≤ tokens k c
+  enough c l h = let e = s.takes c l in let z = s.small c l in omega (arith, e, z, h)
+
+  exact : (c : ℕ) → c < 1024 → changed k d c < 2 ^ 16 → changed k d c ≡ tokens k c - taken n f.transition f.mode c + given n f.transition f.mode c
+  exact c l h = let e = s.takes c l in let g = s.puts c l in let z = s.small c l in omega (arith, e, g, z, h)
+
+  lacks : (c : ℕ) → Checked k d (Err (fault.Lacks c)) → Lowest (Lacking n f (tokens k)) c
+  lacks c h = record {
+    within = h.0;
+    here = let e = s.takes c h.0 in let z = h.1 in omega (arith, e, z);
+    lower = λ i l p. let m : i < 1024 = omega (arith, l, h.0) in let z = enough i m (h.2 i l) in omega (arith, z, p);
+  }
+
+  none-lacks : ((c : ℕ) → c < cells → get_or d.takes c 0 ≤ tokens k c) → Nowhere (Lacking n f (tokens k))
+  none-lacks h c l p = let z = enough c l (h c l) in omega (arith, z, p)
+
+  none-passes : (c : ℕ) → c < cells → changed k d c < 2 ^ 16 → Passing n f (tokens k) c → ⊥
+  none-passes c l h p = let z = exact c l h in omega (arith, z, p, h)
+
+  passes : (c : ℕ) → Checked k d (Err (fault.Full c)) → Lowest (Passing n f (tokens k)) c
+  passes c h = record {
+    within = h.1;
+    here = let e = s.takes c h.1 in let g = s.puts c h.1 in let z = s.small c h.1 in let y = h.2 in omega (arith, e, g, z, y);
+    lower = λ i l p. let m : i < 1024 = omega (arith, l, h.1) in none-passes i m (h.3 i l) p;
+  }
+
+  pub roomy : Checked k d (Ok _) → Roomy n f (tokens k)
+  roomy h = record { enough = none-lacks (λ c l. (h c l).0); room = λ c l. none-passes c l (h c l).1 }
+
+  pub refused : (l : LentList Firing) → Open n f → (e : Fault) → Checked k d (Err e) → FireRefused n f (lent k l) e
+  refused l o (fault.Lacks c) h = (o, lacks c h)
+  refused l o (fault.Full c) h = (o, none-lacks h.0, passes c h)
+  refused l o e h = absurd h
+
+  pub fires : Open n f → length f.mode ≡ 4 → Checked k d (Ok _) → (b : Marking) → ((c : ℕ) → c < cells → changed k d c < 2 ^ 16 → b c ≡ changed k d c) → Fires n f.transition f.mode (tokens k) b
+  fires o four h b new = record {
+    there = o.there;
+    four = four;
+    mode = o.mode;
+    guard = o.guard;
+    enough = λ c l. enough c l (h c l).0;
+    new = λ c l. let z = exact c l (h c l).1 in let y = new c l (h c l).1 in omega (arith, z, y);
+  }
+
+  pub small-after : Checked k d (Ok _) → (b : Marking) → ((c : ℕ) → c < cells → changed k d c < 2 ^ 16 → b c ≡ changed k d c) → Small b
+  small-after h b new c l = let z = (h c l).1 in let y = new c l (h c l).1 in omega (arith, z, y)
+
+-- every firing that is held up by nothing else has a bound, so no cell is full
+pub never-full : (n : Net) (f : Firing) (l k : Lent) (r : Result (Unit {0}) Fault) → length f.mode ≡ 4 → FireCalled n f l k r → Led n l.trail (marking l) → NeverFull n r
+never-full n f l k r four h p bounds c is =
+    let t = f.transition in
+    let m = f.mode in
+    let why : FireRefused n f l (fault.Full c) = (subst (λ (x : Result (Unit {0}) Fault). FireCalled n f l k x) is h).0 in
+    let o = why.0 in
+    let b : Marking = λ x. marking l x - taken n t m x + given n t m x in
+    let fires : Fires n t m (marking l) b
+    = record { there = o.there; four = four; mode = o.mode; guard = o.guard; enough = λ x i. enough x (why.1 x i); new = λ x i. refl } in
+    let limit = bounds c why.2.within in
+    let low = limit.2 b (reachable-next n l.trail (marking l) p t m b fires) in
+    let high = why.2.here in
+    let most = limit.1 in
+    omega arith
+  where
+    enough : (x : ℕ) → (marking l x < taken n f.transition f.mode x → ⊥) → taken n f.transition f.mode x ≤ marking l x
+    enough x not = by (ltb (marking l x) (taken n f.transition f.mode x)) refl
+      where
+        by : (b : Bool) → ltb (marking l x) (taken n f.transition f.mode x) ≡ b → taken n f.transition f.mode x ≤ marking l x
+        by true i = absurd (not (grind (arith, nat_tests, i)))
+        by false i = grind (arith, nat_tests, i)

@@ -1,0 +1,32 @@
+-- What stands last, changed.
+use Rattle.std.proofs.Common.{◌≡◌, ℕ, ◌-◌, ◌<◌, ◌≤◌, List, [], ◌∷◌, length, get_or, map, set, sym, refl, ap, ◌∙◌, arith}
+use Rattle.std.proofs.Math.ListN.{length-map}
+use Rattle.std.proofs.lemmas.List.{get_or_default, get_or-map, get_or-set_same, length-set, map-set, set-get_or, set-set}
+use Rattle.net.specs.Reading.{renew}
+
+pub anew : {X : Type 0} (xs : List X) (n : ℕ) (none : X) (f : X → X) (t u : X) → n ≡ length xs → 0 < n → t ≡ get_or xs (n - 1) t → u ≡ f t → set xs (n - 1) u ≡ renew xs none f
+anew xs n none f t u e some is h =
+    let last : n - 1 < length xs = omega arith in
+    ap (λ x. set xs (n - 1) x) (h ∙ ap f (is ∙ get_or_default xs (n - 1) t none last)) ∙ ap (λ k. set xs (k - 1) (f (get_or xs (k - 1) none))) e
+
+pub told_anew : {X Y : Type 0} (told : X → Y) (xs : List X) (n : ℕ) (none : Y) (f : Y → Y) (t u : X) → n ≡ length xs → 0 < n → t ≡ get_or xs (n - 1) t → told u ≡ f (told t)
+    → map told (set xs (n - 1) u) ≡ renew (map told xs) none f
+told_anew told xs n none f t u e some is h =
+    map-set told xs (n - 1) u ∙ anew (map told xs) n none f (told t) (told u) (e ∙ sym (length-map xs told)) some (ap told is ∙ sym (get_or-map told xs (n - 1) t (told t) (omega arith))) h
+
+pub none_anew : {X : Type 0} (xs : List X) (none : X) (f : X → X) → length xs ≤ 0 → xs ≡ renew xs none f
+none_anew [] none f h = refl
+none_anew (x ∷ xs) none f h = let z : ⊥ = omega arith in absurd z
+
+pub same_anew : {X : Type 0} (xs : List X) (none : X) → xs ≡ renew xs none (λ x. x)
+same_anew xs none = sym (set-get_or xs (length xs - 1) none)
+
+pub anew_twice : {X : Type 0} (xs : List X) (none : X) (f g : X → X) → renew (renew xs none f) none g ≡ renew xs none (λ x. g (f x))
+anew_twice [] none f g = refl
+anew_twice {X} (x ∷ xs) none f g =
+    let l : List X = x ∷ xs in
+    let k = length l - 1 in
+    let y = f (get_or l k none) in
+    ap (λ n. set (set l k y) (n - 1) (g (get_or (set l k y) (n - 1) none))) (length-set l k y)
+    ∙ ap (λ z. set (set l k y) k (g z)) (get_or-set_same l k y none (omega arith))
+    ∙ set-set l k y (g y)

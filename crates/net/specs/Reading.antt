@@ -1,0 +1,179 @@
+-- Which net a file tells, or which fault it has: the commands one after the other, each in the order of its bytes.
+use Rattle.std.specs.Prelude.{◌≡◌, ℕ, zero, suc, ◌+◌, ◌-◌, ◌*◌, Bool, false, cond, List, [], ◌∷◌, ◌++◌, length, replicate, ℤ, pos, Some, None, Ok, Err, Option, Result, nat_le, nat_lt, slice_index, slice_index_or, slice_set, sum_by}
+use Rattle.domain.specs.Kinds.{kind_of}
+use Rattle.term.specs.declared.fault.Fault.TheVariants as fail
+use Rattle.term.specs.declared.fault.FileFault.{FileFault}
+use Rattle.term.specs.declared.fault.Stage.TheVariants as stage
+use Rattle.format.specs.Codes.{code_of}
+use Rattle.format.specs.Commands.{Read, Said, arc, arguments_of, bag_operation, claim, element_weight, end, fault, guard, operation, place, place_weight, said, sort, tokens, transition}
+use Rattle.format.specs.Format.{Setting, in_command, parse_at, place_size, spot, variable_sizes}
+use Rattle.format.specs.Order.{enters}
+use Rattle.format.specs.declared.command.Code.{Code}
+use Rattle.format.specs.declared.command.Code.TheVariants as code
+use Rattle.format.specs.declared.command.Direction.{Direction}
+use Rattle.format.specs.declared.command.Direction.TheVariants as direction
+use Rattle.format.specs.declared.section.Section.{Section}
+use Rattle.format.specs.declared.section.Section.TheVariants as section
+use Rattle.net.specs.declared.parts.Claim.{Claim}
+use Rattle.net.specs.declared.reader.ReadError.{ReadError}
+use Rattle.net.specs.declared.reader.ReadError.TheVariants.{File, Memory}
+use Rattle.net.specs.Nets.{no_claim}
+use Rattle.net.specs.System.{Arc, SystemNet, Transition}
+
+-- the net that the end alone tells: sort 0 with its two elements
+abbrev pub empty : SystemNet
+empty = record { sig = record { sizes = 2 ∷ []; operations = []; bags = [] }; places = []; initial = replicate 1024 0; transitions = []; claims = [] }
+
+abbrev pub no_transition : Transition
+no_transition = record { sorts = []; sizes = []; guard = None; takes = []; puts = [] }
+
+-- what stands last, or something in its place
+abbrev pub newest : {X : Type 0} → List X → X → X
+newest xs none = slice_index_or xs (length xs - 1) none
+
+-- the last changed by f
+abbrev pub renew : {X : Type 0} → List X → X → (X → X) → List X
+renew xs none f = slice_set xs (length xs - 1) (f (newest xs none))
+
+-- what the operands of the next command are read by, in a file of so many bytes: variables are those of the newest
+-- transition, and weights are for the newest claim
+abbrev pub setting : SystemNet → ℕ → Setting
+setting n ends = record { signature = n.sig; places = n.places; variables = (newest n.transitions no_transition).sorts; kind = (newest n.claims no_claim).kind; ends = ends }
+
+-- how many arcs there are, both directions together
+abbrev pub arc_count : SystemNet → ℕ
+arc_count n = sum_by (λ t. length t.takes + length t.puts) n.transitions
+
+-- one more would pass a limit: 7 sorts beside sort 0, 32 operations, 8 bag operations, 16 places, 32 transitions, 128 arcs, 16 claims
+abbrev pub full : SystemNet → Code → Bool
+full n code.Sort = nat_le 8 (length n.sig.sizes)
+full n code.Operation = nat_le 32 (length n.sig.operations)
+full n code.BagOperation = nat_le 8 (length n.sig.bags)
+full n code.Place = nat_le 16 (length n.places)
+full n code.Transition = nat_le 32 (length n.transitions)
+full n code.InArc = nat_le 128 (arc_count n)
+full n code.OutArc = nat_le 128 (arc_count n)
+full n code.Claim = nat_le 16 (length n.claims)
+full n c = false
+
+-- a transition with its guard
+abbrev pub guarded : List ℕ → Transition → Transition
+guarded g t = record t { guard = Some g }
+
+-- a transition with an arc more
+abbrev pub linked : Direction → Arc → Transition → Transition
+linked direction.In a t = record t { takes = t.takes ++ a ∷ [] }
+linked direction.Out a t = record t { puts = t.puts ++ a ∷ [] }
+
+-- the codes of the first k elements of a place made c
+abbrev pub put_row : ℕ → ℕ → ℤ → List ℤ → List ℤ
+put_row p zero c xs = xs
+put_row p (suc k) c xs = slice_set (put_row p k c xs) (64 * p + k) c
+
+-- a claim with other codes
+abbrev pub coded : (List ℤ → List ℤ) → Claim → Claim
+coded f k = record k { codes = f k.codes }
+
+-- other codes in the newest claim
+abbrev pub weighted : SystemNet → (List ℤ → List ℤ) → SystemNet
+weighted n f = record n { claims = renew n.claims no_claim (coded f) }
+
+-- the net with a command carried out: guards and arcs are of the newest transition, weights are for the newest claim
+abbrev pub add : SystemNet → Said → SystemNet
+add n (sort k) = record n { sig = record n.sig { sizes = n.sig.sizes ++ k ∷ [] } }
+add n (operation k a b r t) = record n { sig = record n.sig { operations = n.sig.operations ++ (record { arguments = arguments_of k a b; result = r; table = t }) ∷ [] } }
+add n (bag_operation a r t) = record n { sig = record n.sig { bags = n.sig.bags ++ (record { argument = a; result = r; table = t }) ∷ [] } }
+add n (place s) = record n { places = n.places ++ s ∷ [] }
+add n (tokens p e k) = record n { initial = slice_set n.initial (64 * p + e) k }
+add n (transition s) = record n { transitions = n.transitions ++ (record { sorts = s; sizes = variable_sizes n.sig.sizes (length s) s; guard = None; takes = []; puts = [] }) ∷ [] }
+add n (guard t) = record n { transitions = renew n.transitions no_transition (guarded t) }
+add n (arc d p b) = record n { transitions = renew n.transitions no_transition (linked d (record { place = p; bag = b })) }
+add n (claim k m) = record n { claims = n.claims ++ (record { kind = kind_of k m; codes = replicate 1024 (pos 0) }) ∷ [] }
+add n (place_weight p c) = weighted n (put_row p (place_size n.sig.sizes n.places p) c)
+add n (element_weight p e c) = weighted n (λ xs. slice_set xs (64 * p + e) c)
+add n end = n
+
+-- the code of the next command and the section that it opens, or the fault at its byte
+abbrev pub Opening : Type 0
+Opening = Result (Code × Section) FileFault
+
+-- a command that may stand here, unless it would pass a limit
+abbrev pub entered : Option Section → SystemNet → Code → List ℕ → ℕ → Opening
+entered None n c bs ends = Err (in_command fail.Order (spot bs ends 0))
+entered (Some s) n c bs ends = cond (full n c) (Err (in_command fail.Limit (spot bs ends 0))) (Ok (c, s))
+
+abbrev pub known : Option Code → Section → SystemNet → List ℕ → ℕ → Opening
+known None s n bs ends = Err (in_command fail.NoCommand (spot bs ends 0))
+known (Some c) s n bs ends = entered (enters s c) n c bs ends
+
+-- what stands at the front of bs, in a section of a file that ends at ends
+abbrev pub opening : Section → SystemNet → List ℕ → ℕ → Opening
+opening s n bs ends = cond (nat_lt 0 (length bs)) (known (code_of (slice_index bs 0)) s n bs ends) (Err (in_command fail.Ends ends))
+
+-- a command was carried out and the file goes on, or it was the end, or there is a fault
+pub data Step : Type 0 where
+  next : Section → SystemNet → List ℕ → Step
+  last : SystemNet → Step
+  stop : FileFault → Step
+
+-- what follows a command, by whether it was the end
+abbrev pub went : Section → SystemNet → Said → List ℕ → Step
+went s n end r = last n
+went s n x r = next s n r
+
+abbrev pub carried : Section → SystemNet → Read → Step
+carried s n (said x r) = went s (add n x) x r
+carried s n (fault e) = stop e
+
+-- a command's operands, once its code may stand there
+abbrev pub opened : Opening → SystemNet → List ℕ → ℕ → Step
+opened (Ok x) n bs ends = carried x.1 n (parse_at (setting n ends) x.0 bs)
+opened (Err e) n bs ends = stop e
+
+-- the first command of bs, in a section of a file that ends at ends
+abbrev pub step : Section → SystemNet → List ℕ → ℕ → Step
+step s n bs ends = opened (opening s n bs ends) n bs ends
+
+-- what a file tells: a net, or its one fault
+abbrev pub Told : Type 0
+Told = Result SystemNet FileFault
+
+abbrev pub after : (Section → SystemNet → List ℕ → Told) → Step → Told
+after f (next s n r) = f s n r
+after f (last n) = Ok n
+after f (stop e) = Err e
+
+-- at most k commands; each takes at least one byte, so there are never more than bytes
+unfoldable pub commands : ℕ → ℕ → Section → SystemNet → List ℕ → Told
+commands zero ends s n bs = Err (in_command fail.Ends ends)
+commands (suc k) ends s n bs = after (commands k ends) (step s n bs ends)
+
+-- the net that a file tells, or its fault; a file longer than 65,536 bytes is refused before all else
+abbrev pub told : List ℕ → Told
+told file =
+    cond (nat_le (length file) 65536) (commands (length file + 1) (length file) section.Sorts empty file) (Err (record { fault = fail.TooLong; place = 65536; stage = stage.File }))
+
+-- what the reader answers at a code byte, with the section that is then open
+abbrev pub opens : Result Code FileFault → Section → Opening
+opens (Ok c) s = Ok (c, s)
+opens (Err e) s = Err e
+
+-- what the reader answers at a command: whether the file goes on, in a section, with a net and what is left; of want of
+-- memory nothing is said
+abbrev pub Steps : Result Bool ReadError → Section → SystemNet → List ℕ → Step → Type 0
+Steps (Ok more) s n r x = x ≡ cond more (next s n r) (last n)
+Steps (Err (File e)) s n r x = x ≡ stop e
+Steps (Err Memory) s n r x = Unit {0}
+
+-- what the reader answers at a file, which a net tells or a fault; of want of memory nothing is said
+abbrev pub Fills : Result (Unit {0}) ReadError → List ℕ → SystemNet → Type 0
+Fills (Ok u) file n = told file ≡ Ok n
+Fills (Err (File e)) file n = told file ≡ Err e
+Fills (Err Memory) file n = Unit {0}
+
+-- a net read from a file, by the reader's answer: the net that the file tells, or the empty one, at the fault that the file
+-- has or for want of memory
+abbrev pub Reads : Result (Unit {0}) ReadError → List ℕ → SystemNet → Type 0
+Reads (Ok u) file n = told file ≡ Ok n
+Reads (Err (File e)) file n = (told file ≡ Err e) × (n ≡ empty)
+Reads (Err Memory) file n = n ≡ empty
