@@ -1,5 +1,2 @@
-pub mod Carried
 pub mod Filled
-pub mod Played
 pub mod Prefixes
-pub mod Refusals

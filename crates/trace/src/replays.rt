@@ -1,13 +1,8 @@
 ghost use Rattle.std.specs.Prelude.{◌≡◌};
-ghost use Rattle.bench.specs.Standing.{SameLoans, lent_of};
-ghost use Rattle.trace.specs.Carrying.{CarryCalled};
-ghost use Rattle.trace.specs.Moves.{move_of};
-ghost use Rattle.trace.specs.Replaying.{Ran, RecordingCalled, ReplayCalled, replayed};
 ghost use Rattle.trace.specs.Stops.{cell_of};
 
 use crate::commands::{Command, first};
-use crate::recording::EndedRecording;
-use bench::{Bench, Counts, Firing, measure};
+use bench::{Bench, Counts, Firing};
 use lent::list::LentList;
 use net::Net;
 use term::Fault;
@@ -51,10 +46,7 @@ pub struct Replayed {
 }
 
 // Carries one command out on a bench.
-fn carry_out(bench: &mut Bench, command: Command) -> Result<(), Fault>
-    ensures called { CarryCalled bench.old.net.now (move_of command) (lent_of bench.old) (lent_of bench.new) result }
-    ensures same { SameLoans bench.old bench.new }
-{
+fn carry_out(bench: &mut Bench, command: Command) -> Result<(), Fault> {
     match command {
         Command::Fire { transition, mode } => bench.fire(Firing {
             transition: usize::from(transition),
@@ -70,14 +62,7 @@ fn carry_out(bench: &mut Bench, command: Command) -> Result<(), Fault>
 
 // Carries out the commands of `bytes` in their order, and counts them, up to the first that is turned down. The count is
 // the caller's, so that it stands after a stop too.
-fn carry_all(bench: &mut Bench, bytes: &[u8], carried: &mut u32) -> Result<(), Stop>
-    requires { carried.old ≡ 0 }
-    ensures ran { Ran bench.old.net.now bytes.now (lent_of bench.old) (lent_of bench.new) (replayed carried.new result) }
-    ensures same { SameLoans bench.old bench.new }
-{
-    if bytes.len() > LONGEST {
-        return Err(Stop::at(Fault::TooLong, LONGEST));
-    }
+fn carry_all(bench: &mut Bench, bytes: &[u8], carried: &mut u32) -> Result<(), Stop> {
     let mut rest = bytes;
     'commands: while let Some((command, next)) = first(rest, bytes.len())? {
         carry_out(bench, command)?;
@@ -93,30 +78,17 @@ pub fn replay(
     cells: &mut [u16],
     trail: &mut LentList<Firing>,
     bytes: &[u8],
-) -> Result<Replayed, Fault>
-    ensures { ReplayCalled net.now bytes.now cells.old trail.old cells.new trail.new result }
-{
-    measure(cells)?;
-    let mut counts = Counts { cells };
+) -> Result<Replayed, Fault> {
+    let mut counts = Counts::new(cells)?;
     let mut bench = Bench::begin(net, &mut counts, trail);
     let mut carried = 0;
-    let end = carry_all(&mut bench, bytes, &mut carried);
+    let end = if bytes.len() > LONGEST {
+        Err(Stop::at(Fault::TooLong, LONGEST))
+    } else {
+        carry_all(&mut bench, bytes, &mut carried)
+    };
     Ok(Replayed {
         carried,
         stop: end.err(),
     })
-}
-
-// Replays a recording on a new bench in lent memory: the commands put into it, up to the first that is turned down.
-pub fn replay_recording(
-    net: &Net,
-    cells: &mut [u16],
-    trail: &mut LentList<Firing>,
-    ended: &EndedRecording,
-    memory: &[u8],
-) -> Result<Replayed, Fault>
-    ensures { RecordingCalled net.now memory.now ended.now cells.old trail.old cells.new trail.new result }
-{
-    let bytes = ended.trace(memory)?;
-    replay(net, cells, trail, bytes)
 }
