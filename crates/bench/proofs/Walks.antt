@@ -9,6 +9,7 @@ use Rattle.net.specs.declared.firing.Firing.{Firing}
 use Rattle.net.specs.declared.net.Net.{Net}
 use Rattle.net.specs.Nets.{given, taken}
 use Rattle.net.specs.Runs.{Reachable, Fires, Run, initial}
+use Rattle.bench.specs.Calls.{Returns}
 use Rattle.bench.specs.Path.{Alike, Path, Small}
 
 -- the same firings as those of a run: transitions and modes
@@ -125,11 +126,7 @@ module _ (n : Net) where
       let r = q.1.1 in
       (q.0, (q.1.0, fires-to f.transition f.mode q.0 r.0 b r.1.2.0 r.1.0))
 
-  -- a marking that is the one before the last firing, whichever that is
-  abbrev pub Before : Firing → Marking → Marking → Type 0
-  Before f b x = (a : Marking) → Small a → Small b → Fires n f.transition f.mode a b → Alike x a
-
-  module _ (fs gs : List Firing) (f : Firing) (b x : Marking) (e : fs ≡ gs ++ f ∷ []) (h : Before f b x) (p : Led fs b) where
+  module _ (fs gs : List Firing) (f : Firing) (b x : Marking) (e : fs ≡ gs ++ f ∷ []) (h : Returns n f b x) (p : Led fs b) where
     is : (l : Last gs f b) → Alike x l.0
     is l = h l.0 (small-last (initial n) gs l.0 l.1.0) (small fs b p) l.1.1
 
