@@ -3,7 +3,8 @@ use Rattle.std.proofs.Common.{◌≡◌, ℕ, ◌+◌, ◌-◌, ◌^◌, List, [
 use Rattle.std.proofs.lemmas.List.{length-map, map-append}
 use Rattle.std.proofs.lemmas.List.Sums.{sum_by_push}
 use Rattle.net.specs.declared.parts.Transition as parts
-use Rattle.net.specs.System.{Transition, arc_told, transition_told}
+use Rattle.net.specs.Spans.{arc_told}
+use Rattle.net.specs.System.{Transition, transition_told}
 
 -- how many arcs transitions have
 abbrev pub arcs : List Transition → ℕ

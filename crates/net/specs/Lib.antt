@@ -1,5 +1,6 @@
 pub mod Spans
+pub mod System
 pub mod Nets
 pub mod Runs
-pub mod System
 pub mod Reading
+pub mod Of

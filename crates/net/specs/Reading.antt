@@ -18,14 +18,12 @@ use Rattle.net.specs.declared.parts.Claim.{Claim}
 use Rattle.net.specs.declared.reader.ReadError.{ReadError}
 use Rattle.net.specs.declared.reader.ReadError.TheVariants.{File, Memory}
 use Rattle.net.specs.Nets.{no_claim}
-use Rattle.net.specs.System.{Arc, SystemNet, Transition}
+use Rattle.net.specs.Spans.{Arc}
+use Rattle.net.specs.System.{SystemNet, Transition, no_transition}
 
 -- the net that the end alone tells: sort 0 with its two elements
 abbrev pub empty : SystemNet
 empty = record { sig = record { sizes = 2 ∷ []; operations = []; bags = [] }; places = []; initial = replicate 1024 0; transitions = []; claims = [] }
-
-abbrev pub no_transition : Transition
-no_transition = record { sorts = []; sizes = []; guard = None; takes = []; puts = [] }
 
 -- what stands last, or something in its place
 abbrev pub newest : {X : Type 0} → List X → X → X

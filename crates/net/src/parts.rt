@@ -1,11 +1,14 @@
-ghost use Rattle.std.specs.Prelude.{◌≡◌, ◌≤◌, ◌++◌, ◌∷◌, [], OnOk};
-ghost use Rattle.net.specs.Spans.{spans, towards};
+ghost use Rattle.std.specs.Prelude.{◌≡◌, ◌≤◌, ◌++◌, ◌∷◌, [], OnOk, map, slice_index};
+ghost use Rattle.net.specs.Spans.{arc_told, spans};
 
 use crate::net::CELLS;
 use crate::reader::LONGEST;
 use domain::Kind;
-use format::Direction;
 use std::alloc::AllocError;
+use term::{BagOperation, Operation};
+
+pub mod ask;
+pub mod build;
 
 // An arc: its place and its bag.
 #[derive(Drop)]
@@ -19,7 +22,7 @@ pub struct Arc {
 #[derive(Drop)]
 pub struct Side {
     pub(crate) arcs: Vec<Arc>,
-    ghost short: { spans arcs.items ≤ 65536 },
+    ghost short: { spans (map arc_told arcs.items) ≤ 65536 },
 }
 
 // A transition: the sorts of its variables, how many elements each of four has (1 for an unused one), the term
@@ -40,10 +43,23 @@ pub struct Claim {
     pub(crate) codes: [i32; CELLS],
 }
 
+// What a net is made of. Sort 0 is always there and has two elements.
+#[derive(Drop)]
+pub struct Parts {
+    pub(crate) sizes: Vec<u8>,
+    pub(crate) operations: Vec<Operation>,
+    pub(crate) bags: Vec<BagOperation>,
+    pub(crate) places: Vec<u8>,
+    pub(crate) initial: [u16; CELLS],
+    pub(crate) transitions: Vec<Transition>,
+    pub(crate) claims: Vec<Claim>,
+    ghost first: { slice_index sizes.items 0 ≡ 2 },
+}
+
 impl Side {
     // How many bytes the bags have.
     fn span(&self) -> usize
-        ensures { result ≡ spans self.now.arcs.items }
+        ensures { result ≡ spans (map arc_told self.now.arcs.items) }
     {
         self.arcs.iter().map(|a| a.bag.len()).sum()
     }
@@ -58,17 +74,5 @@ impl Side {
         }
         self.arcs.push(arc)?;
         Ok(())
-    }
-}
-
-impl Transition {
-    // The arcs that go one way.
-    pub(crate) fn arcs(&self, direction: Direction) -> &[Arc]
-        ensures { result.now ≡ towards direction self.now.takes.arcs.items self.now.puts.arcs.items }
-    {
-        match direction {
-            Direction::In => self.takes.arcs.as_slice(),
-            Direction::Out => self.puts.arcs.as_slice(),
-        }
     }
 }

@@ -1,12 +1,12 @@
 use Rattle.std.proofs.Common.{◌≡◌, ◌<◌, List, vec_items, vec_len, ap, rules}
-use Rattle.net.specs.Reading.{guarded, no_transition}
-use Rattle.net.specs.System.{SystemNet, Transition, system, transition_told}
+use Rattle.net.specs.Reading.{guarded}
+use Rattle.net.specs.System.{SystemNet, Transition, no_transition, told_by, transition_told}
 use Rattle.net.proofs.Renewed.{told_anew}
-use Rattle.net.proofs.net.Net.add_guard.Goals as goal
+use Rattle.net.proofs.parts.Parts.add_guard.Goals as goal
 
 pub returns-in-Some : goal.returns-in-Some
 returns-in-Some c =
-    let n : SystemNet = system c.args.self.now in
+    let n : SystemNet = told_by c.args.self.now in
     let ts = c.args.self.now.transitions in
     let some : 0 < vec_len ts = search rules in
     let term : vec_items c.in_ok-term.term ≡ c.args.term.now = search rules in

@@ -3,7 +3,7 @@ use Rattle.std.proofs.lemmas.Fn.{fold_over, slice_gives, fronts}
 use Rattle.net.specs.declared.parts.Transition as parts
 use Rattle.net.specs.System.{transition_told}
 use Rattle.net.proofs.Arcs.{arcs, arcs_more}
-use Rattle.net.proofs.net.Net.arc_count.Goals as goal
+use Rattle.net.proofs.parts.Parts.arc_count.Goals as goal
 
 pub returns : goal.returns
 returns c =

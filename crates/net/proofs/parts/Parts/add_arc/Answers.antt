@@ -1,13 +1,13 @@
 use Rattle.std.proofs.Common.{◌≡◌, ◌<◌, List, vec_items, vec_len, ap, ◌∙◌, rules}
 use Rattle.std.proofs.lemmas.Result.{on_ok_weaker}
-use Rattle.net.specs.Reading.{linked, no_transition}
-use Rattle.net.specs.System.{SystemNet, Transition, system, transition_told}
+use Rattle.net.specs.Reading.{linked}
+use Rattle.net.specs.System.{SystemNet, Transition, no_transition, told_by, transition_told}
 use Rattle.net.proofs.Renewed.{told_anew}
-use Rattle.net.proofs.net.Net.add_arc.Goals as goal
+use Rattle.net.proofs.parts.Parts.add_arc.Goals as goal
 
 pub returns : goal.returns
 returns c =
-    let n : SystemNet = system c.args.self.now in
+    let n : SystemNet = told_by c.args.self.now in
     let ts = c.args.self.now.transitions in
     let some : 0 < vec_len ts = search rules in
     let d = c.args.direction in

@@ -1,15 +1,16 @@
-// A net as it is read, command by command.
+// The parts of a net as it is read, command by command.
 ghost use Rattle.std.specs.Prelude.{◌≡◌, ◌-◌, ◌^◌, min, IfOk, OnOk, slice_set};
 ghost use Rattle.domain.specs.Kinds.{kind_modulus, kind_number};
 ghost use Rattle.term.specs.Meaning.{of};
 ghost use Rattle.format.specs.Commands.{arc, arity, bag_operation, claim, element_weight, first, guard, operation, place_weight, said_of, second, tokens, transition};
 ghost use Rattle.format.specs.Format.{setting_of};
-ghost use Rattle.net.specs.Nets.{no_claim, sig};
-ghost use Rattle.net.specs.Reading.{add, arc_count, coded, empty, full, linked, newest, no_transition, setting};
-ghost use Rattle.net.specs.System.{arc_told, system, transition_told};
+ghost use Rattle.net.specs.Nets.{no_claim};
+ghost use Rattle.net.specs.Reading.{add, arc_count, coded, empty, full, linked, newest, setting};
+ghost use Rattle.net.specs.Spans.{arc_told};
+ghost use Rattle.net.specs.System.{no_transition, told_by, transition_told};
 
-use super::{CELLS, Net};
-use crate::parts::{Arc, Claim, Side, Transition};
+use super::{Arc, Claim, Parts, Side, Transition};
+use crate::net::CELLS;
 use domain::Kind;
 use format::{Code, Command, Context, Direction, variable_sizes};
 use std::alloc::{AllocError, Global};
@@ -53,12 +54,12 @@ impl Claim {
     }
 }
 
-impl Net {
-    // The empty net: sort 0 alone, which has two elements.
-    pub fn new(heap: Global) -> Result<Net, AllocError>
-        ensures { IfOk result (λ n. system n ≡ empty) }
+impl Parts {
+    // Those of the empty net: sort 0 alone, which has two elements.
+    pub(crate) fn new(heap: Global) -> Result<Parts, AllocError>
+        ensures { IfOk result (λ p. told_by p ≡ empty) }
     {
-        Ok(Net {
+        Ok(Parts {
             sizes: vec![in heap; 2]?,
             operations: Vec::new(heap),
             bags: Vec::new(heap),
@@ -69,9 +70,9 @@ impl Net {
         })
     }
 
-    // Back to the empty net.
+    // Back to those of the empty net.
     pub(crate) fn clear(&mut self)
-        ensures { system self.new ≡ empty }
+        ensures { told_by self.new ≡ empty }
     {
         self.sizes.truncate(1);
         self.operations.clear();
@@ -84,7 +85,7 @@ impl Net {
 
     // Whether one more command of this code would pass a limit.
     pub(crate) fn is_full(&self, code: Code) -> bool
-        ensures { result ≡ full (system self.now) code }
+        ensures { result ≡ full (told_by self.now) code }
     {
         match code {
             Code::Sort => self.sizes.len() >= SORTS,
@@ -101,7 +102,7 @@ impl Net {
 
     // How many arcs there are.
     fn arc_count(&self) -> usize
-        ensures { result ≡ min (arc_count (system self.now)) (2 ^ 64 - 1) }
+        ensures { result ≡ min (arc_count (told_by self.now)) (2 ^ 64 - 1) }
     {
         self.transitions.iter().fold(
             0,
@@ -112,7 +113,7 @@ impl Net {
     }
 
     pub(crate) fn signature(&self) -> Signature<'_>
-        ensures { of result ≡ sig self.now }
+        ensures { of result ≡ (told_by self.now).sig }
     {
         Signature {
             sizes: self.sizes.as_slice(),
@@ -123,7 +124,7 @@ impl Net {
 
     // What the operands of the next command are read by, in a file of `ends` bytes.
     pub(crate) fn context(&self, ends: usize) -> Context<'_>
-        ensures { setting_of result ≡ setting (system self.now) ends }
+        ensures { setting_of result ≡ setting (told_by self.now) ends }
     {
         Context {
             checker: Checker {
@@ -138,14 +139,14 @@ impl Net {
 
     // The sorts of the newest transition's variables.
     fn variables(&self) -> &[u8]
-        ensures { result.now ≡ (newest (system self.now).transitions no_transition).sorts }
+        ensures { result.now ≡ (newest (told_by self.now).transitions no_transition).sorts }
     {
         self.transitions.last().map_or(&[], |t| t.sorts.as_slice())
     }
 
     // The kind of the newest claim.
     fn last_kind(&self) -> Kind
-        ensures { result ≡ (newest (system self.now).claims no_claim).kind }
+        ensures { result ≡ (newest (told_by self.now).claims no_claim).kind }
     {
         self.claims.last().map_or(Kind::Equal, |c| c.kind)
     }
@@ -156,7 +157,7 @@ impl Net {
         res: u8,
         table: &[u8],
     ) -> Result<(), AllocError>
-        ensures { OnOk result (system self.new ≡ add (system self.old) (operation (arity arguments) (first arguments) (second arguments) res table.now)) }
+        ensures { OnOk result (told_by self.new ≡ add (told_by self.old) (operation (arity arguments) (first arguments) (second arguments) res table.now)) }
     {
         let heap = *self.operations.allocator();
         self.operations.push(Operation {
@@ -168,7 +169,7 @@ impl Net {
     }
 
     fn add_bag_operation(&mut self, argument: u8, res: u8, table: &[u8]) -> Result<(), AllocError>
-        ensures { OnOk result (system self.new ≡ add (system self.old) (bag_operation argument res table.now)) }
+        ensures { OnOk result (told_by self.new ≡ add (told_by self.old) (bag_operation argument res table.now)) }
     {
         let heap = *self.bags.allocator();
         self.bags.push(BagOperation {
@@ -180,7 +181,7 @@ impl Net {
     }
 
     fn add_transition(&mut self, sorts: &[u8]) -> Result<(), AllocError>
-        ensures { OnOk result (system self.new ≡ add (system self.old) (transition sorts.now)) }
+        ensures { OnOk result (told_by self.new ≡ add (told_by self.old) (transition sorts.now)) }
     {
         let heap = *self.transitions.allocator();
         self.transitions.push(Transition {
@@ -199,7 +200,7 @@ impl Net {
 
     // Gives the newest transition a guard.
     fn add_guard(&mut self, term: &[u8]) -> Result<(), AllocError>
-        ensures { OnOk result (system self.new ≡ add (system self.old) (guard term.now)) }
+        ensures { OnOk result (told_by self.new ≡ add (told_by self.old) (guard term.now)) }
     {
         let term = term.to_vec(*self.transitions.allocator())?;
         if let Some(t) = self.transitions.last_mut() {
@@ -210,7 +211,7 @@ impl Net {
 
     // Gives the newest transition an arc.
     fn add_arc(&mut self, direction: Direction, place: u8, bag: &[u8]) -> Result<(), AllocError>
-        ensures { OnOk result (system self.new ≡ add (system self.old) (arc direction place bag.now)) }
+        ensures { OnOk result (told_by self.new ≡ add (told_by self.old) (arc direction place bag.now)) }
     {
         let arc = Arc {
             place,
@@ -223,7 +224,7 @@ impl Net {
     }
 
     fn add_claim(&mut self, kind: Kind) -> Result<(), AllocError>
-        ensures { OnOk result (system self.new ≡ add (system self.old) (claim (kind_number kind) (kind_modulus kind))) }
+        ensures { OnOk result (told_by self.new ≡ add (told_by self.old) (claim (kind_number kind) (kind_modulus kind))) }
     {
         self.claims.push(Claim {
             kind,
@@ -234,7 +235,7 @@ impl Net {
 
     // Gives one cell of the newest claim a code.
     fn set_code(&mut self, place: u8, element: u8, code: i32)
-        ensures { system self.new ≡ add (system self.old) (element_weight place element code) }
+        ensures { told_by self.new ≡ add (told_by self.old) (element_weight place element code) }
     {
         if let Some(claim) = self.claims.last_mut() {
             claim.set(cell(place, element), code);
@@ -243,7 +244,7 @@ impl Net {
 
     // Gives all elements of a place a code in the newest claim.
     fn set_codes(&mut self, place: u8, code: i32)
-        ensures { system self.new ≡ add (system self.old) (place_weight place code) }
+        ensures { told_by self.new ≡ add (told_by self.old) (place_weight place code) }
     {
         for element in 0..self.elements(place) {
             self.set_code(place, element, code);
@@ -251,7 +252,7 @@ impl Net {
     }
 
     fn set_tokens(&mut self, place: u8, element: u8, count: u16)
-        ensures { system self.new ≡ add (system self.old) (tokens place element count) }
+        ensures { told_by self.new ≡ add (told_by self.old) (tokens place element count) }
     {
         let at = cell(place, element);
         if at < CELLS {
@@ -261,7 +262,7 @@ impl Net {
 
     // Carries out a command that was read.
     pub(crate) fn carry_out(&mut self, command: Command) -> Result<(), AllocError>
-        ensures { OnOk result (system self.new ≡ add (system self.old) (said_of command.entry)) }
+        ensures { OnOk result (told_by self.new ≡ add (told_by self.old) (said_of command.entry)) }
     {
         match command {
             Command::Sort { size } => self.sizes.push(size)?,
