@@ -1,12 +1,12 @@
 -- On memory that fits, judging a claim that the net has fails at a code that is no weight, and for no other reason.
-use Rattle.std.proofs.Common.{◌≡◌, ℕ, ◌<◌, vec_len, Ok, Err, Result, sym, refl, ◌∙◌, subst, arith}
+use Rattle.std.proofs.Common.{◌≡◌, ℕ, ◌<◌, length, Ok, Err, Result, sym, refl, ◌∙◌, subst, arith}
 use Rattle.domain.specs.Domains.{equal, modulo, never_rises, siphon, turned}
 use Rattle.domain.specs.Meaning.{Meaning}
 use Rattle.domain.specs.declared.kind.Kind.{Kind}
 use Rattle.domain.specs.declared.kind.Kind.TheVariants as kind
 use Rattle.term.specs.declared.fault.Fault.{Fault}
 use Rattle.term.specs.declared.fault.Fault.TheVariants as fault
-use Rattle.net.specs.declared.net.Net.{Net}
+use Rattle.net.specs.System.{SystemNet}
 use Rattle.lent.specs.declared.list.LentList.{LentList}
 use Rattle.net.specs.Nets.{IsKind, claim_of}
 use Rattle.judge.specs.Calls.{Called, Fits, Memory, SameLoans, lent}
@@ -17,7 +17,7 @@ use Rattle.judge.specs.declared.judging.Judge.{Judge}
 pub still_fits : (v w : Judge) → SameLoans v w → Fits (lent v) → Fits (lent w)
 still_fits v w s f = record { codes_long = s.codes.long ∙ f.codes_long; before_long = s.before.long ∙ f.before_long; after_long = s.after.long ∙ f.after_long }
 
-module _ (n : Net) (claim : ℕ) (m k : Memory) (fits : Fits m) (there : claim < vec_len n.claims) where
+module _ (n : SystemNet) (claim : ℕ) (m k : Memory) (fits : Fits m) (there : claim < length n.claims) where
   called : {V : Type 0} (d : Meaning V) (e : Fault) → Called d n claim m k (Err e) → e ≡ fault.NoWeight
   called d fault.NoWeight c = refl
   called d fault.Memory c = absurd (c.0 fits)
@@ -40,11 +40,11 @@ module _ (n : Net) (claim : ℕ) (m k : Memory) (fits : Fits m) (there : claim <
   refused e b = by_kind (claim_of n claim).kind e b
 
 -- a claim that is judged for every kind that it has is judged by its kind
-pub by_its_kind : (n : Net) (claim : ℕ) (m k : Memory) (r : Result Outcome Fault) → claim < vec_len n.claims → ((x : Kind) → IsKind n claim x → ByKind x n claim m k r) → ByItsKind n claim m k r
+pub by_its_kind : (n : SystemNet) (claim : ℕ) (m k : Memory) (r : Result Outcome Fault) → claim < length n.claims → ((x : Kind) → IsKind n claim x → ByKind x n claim m k r) → ByItsKind n claim m k r
 by_its_kind n claim m k r there b = b (claim_of n claim).kind (record { there = there; is = refl })
 
 -- a claim that is refused after others ends the survey
-pub stopped : (n : Net) (claim : ℕ) (m x k : Memory) (s t : LentList Outcome) (e : Fault) → Ready n m s → claim < vec_len n.claims → Fits x → Added n m x s t claim
+pub stopped : (n : SystemNet) (claim : ℕ) (m x k : Memory) (s t : LentList Outcome) (e : Fault) → Ready n m s → claim < length n.claims → Fits x → Added n m x s t claim
     → ByItsKind n claim x k (Err e) → Surveyed n m k s t (Err e)
 stopped n claim m x k s t e ready there fits added b =
     let is = refused n claim x k fits there e b in

@@ -1,23 +1,23 @@
 -- One mode more, and one transition more.
 use Rattle.std.proofs.Common.{◌≡◌, ℕ, ◌+◌, ◌-◌, ◌^◌, min, Bool, true, false, cond, List, ℤ, sym, refl, ap, ◌∙◌, true≢false, add-one, arith, below_more}
 use Rattle.domain.specs.Meaning.{Meaning}
-use Rattle.net.specs.declared.net.Net.{Net}
+use Rattle.net.specs.System.{SystemNet}
 use Rattle.net.specs.Nets.{guard_holds}
 use Rattle.judge.specs.Judged.{Kept, KeptAll, after, before, firing, held, mode, modes_of, number}
 
-pub firing_none : (n : Net) (t : ℕ) → 0 ≡ held (firing n t 0)
+pub firing_none : (n : SystemNet) (t : ℕ) → 0 ≡ held (firing n t 0)
 unfolding firing
 firing_none n t = refl
 
-firing_more : (n : Net) (t i : ℕ) (b : Bool) → guard_holds n t (mode n t i) ≡ b → firing n t i + cond b 1 0 ≡ firing n t (i + 1)
+firing_more : (n : SystemNet) (t i : ℕ) (b : Bool) → guard_holds n t (mode n t i) ≡ b → firing n t i + cond b 1 0 ≡ firing n t (i + 1)
 unfolding firing
 firing_more n t i b e = rw add-one (ap (λ (x : Bool). firing n t i + cond x 1 0) (sym e))
 
-pub number_none : (n : Net) → 0 ≡ held (number n 0)
+pub number_none : (n : SystemNet) → 0 ≡ held (number n 0)
 unfolding number
 number_none n = refl
 
-number_more : (n : Net) (k : ℕ) → number n k + firing n k (modes_of n k) ≡ number n (k + 1)
+number_more : (n : SystemNet) (k : ℕ) → number n k + firing n k (modes_of n k) ≡ number n (k + 1)
 unfolding number
 number_more n k = rw add-one refl
 
@@ -25,7 +25,7 @@ number_more n k = rw add-one refl
 hold : (x a b c s : ℕ) → x ≡ held a → c ≡ held b → a + b ≡ s → min (x + c) (2 ^ 32 - 1) ≡ held s
 hold x a b c s p q r = grind (arith, p, q, r)
 
-module _ {V : Type 0} (d : Meaning V) (codes : List ℤ) (n : Net) where
+module _ {V : Type 0} (d : Meaning V) (codes : List ℤ) (n : SystemNet) where
   -- what is known after the first i modes of t
   abbrev pub Turned : ℕ → ℕ → ℕ → Type 0
   Turned t i c = (c ≡ held (firing n t i)) × Kept d codes n t i

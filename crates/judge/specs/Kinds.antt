@@ -5,7 +5,7 @@ use Rattle.domain.specs.Domains.{equal, modulo, never_rises, siphon, turned}
 use Rattle.domain.specs.declared.kind.Kind.{Kind}
 use Rattle.domain.specs.declared.kind.Kind.TheVariants as kind
 use Rattle.term.specs.declared.fault.Fault.{Fault}
-use Rattle.net.specs.declared.net.Net.{Net}
+use Rattle.net.specs.System.{SystemNet}
 use Rattle.net.specs.declared.firing.Firing.{Firing}
 use Rattle.judge.specs.Calls.{Called, Memory}
 use Rattle.judge.specs.Judged.{Verdict}
@@ -23,11 +23,11 @@ shown (Ok r) = Ok (outcome_of r)
 shown (Err e) = Err e
 
 -- r is what judging under a domain answers, without its values
-abbrev pub By : {V : Type 0} → Meaning V → Net → ℕ → Memory → Memory → Result Outcome Fault → Type 0
+abbrev pub By : {V : Type 0} → Meaning V → SystemNet → ℕ → Memory → Memory → Result Outcome Fault → Type 0
 By {V} d n claim m k r = (v : Result (Verdict V) Fault) × (Called d n claim m k v × (r ≡ shown v))
 
 -- the domain of each kind
-abbrev pub ByKind : Kind → Net → ℕ → Memory → Memory → Result Outcome Fault → Type 0
+abbrev pub ByKind : Kind → SystemNet → ℕ → Memory → Memory → Result Outcome Fault → Type 0
 ByKind kind.Equal n claim m k r = By equal n claim m k r
 ByKind kind.NeverRises n claim m k r = By never_rises n claim m k r
 ByKind kind.NeverFalls n claim m k r = By (turned never_rises) n claim m k r

@@ -1,15 +1,16 @@
 use Rattle.std.proofs.Common.{ℕ, ◌+◌, sym, ◌∙◌, subst, below_none}
+use Rattle.judge.specs.Calls.{net_of}
 use Rattle.judge.proofs.Turns.{Turned, firing_none, kept, passed}
 use Rattle.judge.proofs.judging.Judge.judge_modes.Goals as goal
 use Rattle.judge.proofs.judging.Judge.judge_modes.Goals.{then-guard+else-not-relates, else-guard}
 
 pub loop-i-init : goal.loop-i-init
-loop-i-init g c = (firing_none c.args.self.now.net.now c.args.t, below_none _)
+loop-i-init g c = (firing_none (net_of c.args.self.now) c.args.t, below_none _)
 
 pub loop-i-preserved : goal.loop-i-preserved
 loop-i-preserved g c =
     let d = g.D.WeightDomain.meaning c.args.d.now in
-    let n = c.args.self.now.net.now in
+    let n = net_of c.args.self.now in
     let t = c.args.t in
     let m = c.mode.result in
     elim c.if-guard.branch [

@@ -1,6 +1,6 @@
 use Rattle.std.proofs.Common.{◌≡◌, ℕ, List, length, replicate, ap, ◌∙◌, subst}
 use Rattle.net.specs.Nets.{Tallied, given, taken}
-use Rattle.judge.specs.Calls.{none}
+use Rattle.judge.specs.Calls.{net_of, none}
 use Rattle.judge.proofs.judging.Judge.leave.Goals as goal
 
 -- what was filled with 0 is all 0
@@ -9,7 +9,7 @@ cleared xs ys e l = e ∙ ap (λ (k : ℕ). replicate k 0) l
 
 pub returns-in-Err-clause-left : goal.returns-in-Err-clause-left
 returns-in-Err-clause-left g c =
-    let n = c.args.self.now.net.now in
+    let n = net_of c.args.self.now in
     let t = c.in-Err.breach.firing.transition in
     let m = c.in-Err.breach.firing.mode in
     let b = cleared c.args.self.now.before.now c.fill.new.self (c.fill.ensures.after (λ y h. h)) c.requires.before_long in
