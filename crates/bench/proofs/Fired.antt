@@ -11,16 +11,19 @@ use Rattle.net.specs.Nets.{given, taken}
 use Rattle.net.specs.Runs.{Fires, cells}
 use Rattle.bench.specs.Calls.{Checked, FireCalled, FireRefused, Lacking, Lent, Lowest, Nowhere, Open, Passing, Roomy, lent, marking}
 use Rattle.bench.specs.Counted.{Counted, changed, tokens}
-use Rattle.bench.specs.Path.{NeverFull, Small}
+use Rattle.bench.specs.Path.{Led, NeverFull, Small}
 use Rattle.bench.specs.declared.change.Change.{Change}
 use Rattle.bench.specs.declared.counts.Counts.{Counts}
-use Rattle.bench.proofs.Walks.{Led, reachable-next}
+use Rattle.bench.proofs.Walks.{reachable-next}
 
 -- what is known of a change that a firing makes, on counts that fit sixteen bits
 pub record Sized (n : Net) (f : Firing) (k : Counts) (d : Change) : Type 0 where
   pub takes : Counted d.takes (taken n f.transition f.mode)
   pub puts : Counted d.puts (given n f.transition f.mode)
   pub small : Small (tokens k)
+
+pub sized : {n : Net} {f : Firing} {d : Change} (k : Counts) → Counted d.takes (taken n f.transition f.mode) → Counted d.puts (given n f.transition f.mode) → Small (tokens k) → Sized n f k d
+sized k takes puts small = record { takes = takes; puts = puts; small = small }
 
 module _ {n : Net} {f : Firing} {k : Counts} {d : Change} (s : Sized n f k d) where
   enough : (c : ℕ) → c < 1024 → get_or d.takes c 0 ≤ tokens k c → taken n f.transition f.mode c ≤ tokens k c
@@ -67,8 +70,9 @@ module _ {n : Net} {f : Firing} {k : Counts} {d : Change} (s : Sized n f k d) wh
     new = λ c l. let z = exact c l (h c l).1 in let y = new c l (h c l).1 in omega (arith, z, y);
   }
 
-  pub small-after : Checked k d (Ok _) → (b : Marking) → ((c : ℕ) → c < cells → changed k d c < 2 ^ 16 → b c ≡ changed k d c) → Small b
-  small-after h b new c l = let z = (h c l).1 in let y = new c l (h c l).1 in omega (arith, z, y)
+-- once a change that was found to fit is made, the counts fit sixteen bits
+pub small-after : (k : Counts) (d : Change) → Checked k d (Ok _) → (b : Marking) → ((c : ℕ) → c < cells → changed k d c < 2 ^ 16 → b c ≡ changed k d c) → Small b
+small-after k d h b new c l = let z = (h c l).1 in let y = new c l (h c l).1 in omega (arith, z, y)
 
 -- every firing that is held up by nothing else has a bound, so no cell is full
 pub never-full : (n : Net) (f : Firing) (l k : Lent) (r : Result (Unit {0}) Fault) → length f.mode ≡ 4 → FireCalled n f l k r → Led n l.trail (marking l) → NeverFull n r

@@ -12,7 +12,7 @@ use Rattle.net.specs.Runs.{Fires, cells, initial}
 use Rattle.bench.specs.Counted.{changed, tokens}
 use Rattle.bench.specs.declared.change.Change.{Change}
 use Rattle.bench.specs.declared.counts.Counts.{Counts}
-use Rattle.bench.specs.Path.{Alike, Small}
+use Rattle.bench.specs.Path.{Alike, Led, Small}
 
 -- the memory of a bench: the counts, the firings on the trail, oldest first, and the whole memory of the trail
 pub record Lent : Type 0 where
@@ -27,6 +27,10 @@ lent k l = record { counts = k.cells.now; trail = held l; memory = whole l }
 -- the marking that the counts hold
 abbrev pub marking : Lent → Marking
 marking m c = slice_index m.counts c
+
+-- the firings on the trail lead from the initial marking to the counts
+abbrev pub Stands : Net → Lent → Type 0
+Stands n l = Led n l.trail (marking l)
 
 -- begun from the memory l to k: the marking is the initial one, and the trail is empty, with its memory as it was
 pub record Begun (n : Net) (l k : Lent) : Type 0 where

@@ -6,7 +6,7 @@ use Rattle.term.specs.declared.fault.Fault.{Fault}
 use Rattle.term.specs.declared.fault.Fault.TheVariants.{Full}
 use Rattle.net.specs.declared.firing.Firing.{Firing}
 use Rattle.net.specs.declared.net.Net.{Net}
-use Rattle.net.specs.Runs.{Bounded, Fires, cells}
+use Rattle.net.specs.Runs.{Bounded, Fires, cells, initial}
 
 -- no cell holds more than 65,535
 abbrev pub Small : Marking → Type 0
@@ -20,6 +20,10 @@ Alike a b = (c : ℕ) → c < cells → a c ≡ b c
 abbrev pub Path : Net → Marking → List Firing → Marking → Type 0
 Path n a [] b = Alike a b × Small b
 Path n a (f ∷ fs) b = (x : Marking) × (Fires n f.transition f.mode a x × Small a × Path n x fs b)
+
+-- the firings lead from the initial marking to b
+abbrev pub Led : Net → List Firing → Marking → Type 0
+Led n fs b = ∥ Path n (initial n) fs b ∥₁
 
 -- every cell has a bound that a bench can hold
 abbrev pub Holdable : Net → Type 0

@@ -6,9 +6,8 @@ ghost use Rattle.bench.specs.Standing.{HasLoans, SameLoans, lent_of};
 ghost use Rattle.bench.specs.Values.{Related};
 
 use super::Bench;
-use super::steps::{checked, opened, start, undo};
-use crate::change::Change;
 use crate::counts::Counts;
+use crate::moves::{back_on, begin_on, fire_on};
 use domain::WeightDomain;
 use lent::list::LentList;
 use net::{Firing, Net};
@@ -25,7 +24,7 @@ impl<'n, 'a, 'c, 'b> Bench<'n, 'a, 'c, 'b> {
         ensures begun { Begun net.now (lent counts.old trail.old) (lent_of result) }
         ensures lent { HasLoans counts.entry trail.entry result }
     {
-        start(net, counts, trail);
+        begin_on(net, counts, trail);
         Bench { net, counts, trail }
     }
 
@@ -36,16 +35,7 @@ impl<'n, 'a, 'c, 'b> Bench<'n, 'a, 'c, 'b> {
         ensures never_full { NeverFull self.old.net.now result }
         ensures same { SameLoans self.old self.new }
     {
-        opened(self.net, firing)?;
-        let change = Change::of(self.net, firing);
-        checked(self.counts, &change)?;
-        match self.trail.push(firing) {
-            Ok(()) => {
-                self.counts.shift(&change);
-                Ok(())
-            }
-            Err(_) => Err(Fault::TrailFull),
-        }
+        fire_on(self.net, self.counts, self.trail, firing)
     }
 
     // Undoes the newest firing.
@@ -53,13 +43,7 @@ impl<'n, 'a, 'c, 'b> Bench<'n, 'a, 'c, 'b> {
         ensures called { BackCalled self.old.net.now (lent_of self.old) (lent_of self.new) result }
         ensures same { SameLoans self.old self.new }
     {
-        match self.trail.pop() {
-            Some(firing) => {
-                undo(self.net, self.counts, firing);
-                Ok(())
-            }
-            None => Err(Fault::TrailEmpty),
-        }
+        back_on(self.net, self.counts, self.trail)
     }
 
     // Back to the initial marking: what `begin` does too, before there is a bench.
@@ -67,7 +51,7 @@ impl<'n, 'a, 'c, 'b> Bench<'n, 'a, 'c, 'b> {
         ensures begun { Begun self.old.net.now (lent_of self.old) (lent_of self.new) }
         ensures same { SameLoans self.old self.new }
     {
-        start(self.net, self.counts, self.trail);
+        begin_on(self.net, self.counts, self.trail);
     }
 
     // How many tokens a cell holds. Whatever was done on the bench, a run of the net leads to its marking, and no cell
