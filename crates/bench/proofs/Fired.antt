@@ -6,7 +6,7 @@ use Rattle.term.specs.Worth.{Marking}
 use Rattle.term.specs.declared.fault.Fault.{Fault}
 use Rattle.term.specs.declared.fault.Fault.TheVariants as fault
 use Rattle.net.specs.declared.firing.Firing.{Firing}
-use Rattle.net.specs.declared.net.Net.{Net}
+use Rattle.net.specs.System.{SystemNet}
 use Rattle.net.specs.Nets.{given, taken}
 use Rattle.net.specs.Runs.{Fires, cells}
 use Rattle.bench.specs.Calls.{Checked, FireCalled, FireRefused, Lacking, Lent, Lowest, Nowhere, Open, Passing, Roomy, lent, marking}
@@ -17,15 +17,15 @@ use Rattle.bench.specs.declared.counts.Counts.{Counts}
 use Rattle.bench.proofs.Walks.{reachable-next}
 
 -- what is known of a change that a firing makes, on counts that fit sixteen bits
-pub record Sized (n : Net) (f : Firing) (k : Counts) (d : Change) : Type 0 where
+pub record Sized (n : SystemNet) (f : Firing) (k : Counts) (d : Change) : Type 0 where
   pub takes : Counted d.takes (taken n f.transition f.mode)
   pub puts : Counted d.puts (given n f.transition f.mode)
   pub small : Small (tokens k)
 
-pub sized : {n : Net} {f : Firing} {d : Change} (k : Counts) → Counted d.takes (taken n f.transition f.mode) → Counted d.puts (given n f.transition f.mode) → Small (tokens k) → Sized n f k d
+pub sized : {n : SystemNet} {f : Firing} {d : Change} (k : Counts) → Counted d.takes (taken n f.transition f.mode) → Counted d.puts (given n f.transition f.mode) → Small (tokens k) → Sized n f k d
 sized k takes puts small = record { takes = takes; puts = puts; small = small }
 
-module _ {n : Net} {f : Firing} {k : Counts} {d : Change} (s : Sized n f k d) where
+module _ {n : SystemNet} {f : Firing} {k : Counts} {d : Change} (s : Sized n f k d) where
   enough : (c : ℕ) → c < 1024 → get_or d.takes c 0 ≤ tokens k c → taken n f.transition f.mode c ≤ tokens k c
   enough c l h = let e = s.takes c l in let z = s.small c l in omega (arith, e, z, h)
 
@@ -75,7 +75,7 @@ pub small-after : (k : Counts) (d : Change) → Checked k d (Ok _) → (b : Mark
 small-after k d h b new c l = let z = (h c l).1 in let y = new c l (h c l).1 in omega (arith, z, y)
 
 -- every firing that is held up by nothing else has a bound, so no cell is full
-pub never-full : (n : Net) (f : Firing) (l k : Lent) (r : Result (Unit {0}) Fault) → length f.mode ≡ 4 → FireCalled n f l k r → Led n l.trail (marking l) → NeverFull n r
+pub never-full : (n : SystemNet) (f : Firing) (l k : Lent) (r : Result (Unit {0}) Fault) → length f.mode ≡ 4 → FireCalled n f l k r → Led n l.trail (marking l) → NeverFull n r
 never-full n f l k r four h p bounds c is =
     let t = f.transition in
     let m = f.mode in

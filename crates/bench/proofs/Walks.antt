@@ -6,7 +6,7 @@ use native.Mathlib.Bridge.{le_prop}
 use native.Mathlib.Nat.{ℕ_set}
 use Rattle.term.specs.Worth.{Marking}
 use Rattle.net.specs.declared.firing.Firing.{Firing}
-use Rattle.net.specs.declared.net.Net.{Net}
+use Rattle.net.specs.System.{SystemNet}
 use Rattle.net.specs.Nets.{given, taken}
 use Rattle.net.specs.Runs.{Reachable, Fires, Run, initial}
 use Rattle.bench.specs.Calls.{Returns}
@@ -19,7 +19,7 @@ steps fs = map (λ f. (f.transition, f.mode)) fs
 small-from : (a b : Marking) → Alike a b → Small b → Small a
 small-from a b e s c h = let z = e c h in let y = s c h in omega arith
 
-module _ (n : Net) where
+module _ (n : SystemNet) where
   fires-from : (t : ℕ) (m : List ℕ) (a b x : Marking) → Alike a b → Fires n t m b x → Fires n t m a x
   fires-from t m a b x e f = record {
     there = f.there;

@@ -5,6 +5,7 @@ ghost use Rattle.lent.specs.Held as list;
 ghost use Rattle.bench.specs.Calls.{BackCalled, Begun, Checked, FireCalled, Opened, Returns, Stands, lent};
 ghost use Rattle.bench.specs.Counted.{loan, tokens};
 ghost use Rattle.bench.specs.Path.{NeverFull};
+ghost use Rattle.net.specs.Of.{system};
 
 use crate::change::Change;
 use crate::counts::Counts;
@@ -14,8 +15,8 @@ use term::Fault;
 
 // The initial marking, and an empty trail.
 pub fn begin_on(net: &Net, counts: &mut Counts, trail: &mut LentList<Firing>)
-    ensures begun { Begun net.now (lent counts.old trail.old) (lent counts.new trail.new) }
-    ensures stands { Stands net.now (lent counts.new trail.new) }
+    ensures begun { Begun (system net.now) (lent counts.old trail.old) (lent counts.new trail.new) }
+    ensures stands { Stands (system net.now) (lent counts.new trail.new) }
     ensures counts_loan { loan counts.new ≡ loan counts.old }
     ensures trail_loan { list.loan trail.new ≡ list.loan trail.old }
 {
@@ -25,7 +26,7 @@ pub fn begin_on(net: &Net, counts: &mut Counts, trail: &mut LentList<Firing>)
 
 // Whether the net allows a firing, whatever the marking.
 fn opened(net: &Net, firing: Firing) -> Result<(), Fault>
-    ensures { Opened net.now firing result }
+    ensures { Opened (system net.now) firing result }
 {
     if firing.transition >= net.transitions() {
         return Err(Fault::NoTransition);
@@ -60,9 +61,9 @@ pub fn fire_on(
     trail: &mut LentList<Firing>,
     firing: Firing,
 ) -> Result<(), Fault>
-    ensures called { FireCalled net.now firing (lent counts.old trail.old) (lent counts.new trail.new) result }
-    ensures stands { Stands net.now (lent counts.old trail.old) → Stands net.now (lent counts.new trail.new) }
-    ensures never_full { Stands net.now (lent counts.old trail.old) → NeverFull net.now result }
+    ensures called { FireCalled (system net.now) firing (lent counts.old trail.old) (lent counts.new trail.new) result }
+    ensures stands { Stands (system net.now) (lent counts.old trail.old) → Stands (system net.now) (lent counts.new trail.new) }
+    ensures never_full { Stands (system net.now) (lent counts.old trail.old) → NeverFull (system net.now) result }
     ensures counts_loan { loan counts.new ≡ loan counts.old }
     ensures trail_loan { list.loan trail.new ≡ list.loan trail.old }
 {
@@ -81,7 +82,7 @@ pub fn fire_on(
 
 // Undoes a firing on the counts.
 fn undo(net: &Net, counts: &mut Counts, firing: Firing)
-    ensures returns { Returns net.now firing (tokens counts.old) (tokens counts.new) }
+    ensures returns { Returns (system net.now) firing (tokens counts.old) (tokens counts.new) }
     ensures loan { loan counts.new ≡ loan counts.old }
 {
     counts.shift(&Change::undoing(net, firing));
@@ -89,8 +90,8 @@ fn undo(net: &Net, counts: &mut Counts, firing: Firing)
 
 // Undoes the newest firing. Only where the firings on the trail led to the counts is there a marking from before it.
 pub fn back_on(net: &Net, counts: &mut Counts, trail: &mut LentList<Firing>) -> Result<(), Fault>
-    ensures called { Stands net.now (lent counts.old trail.old) → BackCalled net.now (lent counts.old trail.old) (lent counts.new trail.new) result }
-    ensures stands { Stands net.now (lent counts.old trail.old) → Stands net.now (lent counts.new trail.new) }
+    ensures called { Stands (system net.now) (lent counts.old trail.old) → BackCalled (system net.now) (lent counts.old trail.old) (lent counts.new trail.new) result }
+    ensures stands { Stands (system net.now) (lent counts.old trail.old) → Stands (system net.now) (lent counts.new trail.new) }
     ensures counts_loan { loan counts.new ≡ loan counts.old }
     ensures trail_loan { list.loan trail.new ≡ list.loan trail.old }
 {

@@ -5,7 +5,7 @@ use Rattle.lent.specs.declared.list.LentList.{LentList}
 use Rattle.term.specs.Faults.{number_of}
 use Rattle.term.specs.declared.fault.Fault.{Fault}
 use Rattle.net.specs.declared.firing.Firing.{Firing}
-use Rattle.net.specs.declared.net.Net.{Net}
+use Rattle.net.specs.System.{SystemNet}
 use Rattle.bench.specs.Calls.{Begun, Lent, Stands, marking}
 use Rattle.net.specs.Runs.{Reachable}
 use Rattle.bench.proofs.Walks.{reachable}
@@ -24,14 +24,14 @@ use Rattle.trace.proofs.Refusals.{stops_bench}
 
 -- a replay that goes on: of the bytes, some commands are carried out and counted, from the memory l to k, and the rest
 -- is left
-pub record Going (n : Net) (bs rest : List ℕ) (l k : Lent) (count : ℕ) : Type 0 where
+pub record Going (n : SystemNet) (bs rest : List ℕ) (l k : Lent) (count : ℕ) : Type 0 where
   pub moves : List Move
   pub begins : bs ≡ written moves ++ rest
   pub counted : count ≡ length moves
   pub done : Done n l moves k
   pub short : length bs ≤ 65536
 
-module _ (n : Net) (bs rest : List ℕ) (l k : Lent) (count : ℕ) (g : Going n bs rest l k count) where
+module _ (n : SystemNet) (bs rest : List ℕ) (l k : Lent) (count : ℕ) (g : Going n bs rest l k count) where
   -- so few commands that the count is exact
   pub few : count ≤ 65536
   few = let e = g.counted in let s = g.short in let b = ap length g.begins in omega (arith, counted g.moves rest, e, s, b)
@@ -69,7 +69,7 @@ module _ (n : Net) (bs rest : List ℕ) (l k : Lent) (count : ℕ) (g : Going n 
       }
 
 -- of a trace that is too long nothing is carried out
-pub ran_long : (n : Net) (bs : List ℕ) (l : Lent) (k : ℕ) (s : Stop) → 65536 < length bs → k ≡ 0 → number_of s.fault ≡ 1 → s.place ≡ 65536 → Ran n bs l l (record { carried = k; stop = Some s })
+pub ran_long : (n : SystemNet) (bs : List ℕ) (l : Lent) (k : ℕ) (s : Stop) → 65536 < length bs → k ≡ 0 → number_of s.fault ≡ 1 → s.place ≡ 65536 → Ran n bs l l (record { carried = k; stop = Some s })
 ran_long n bs l k s h e f p = record {
   said = [];
   close = fault 1 65536;
@@ -78,7 +78,7 @@ ran_long n bs l k s h e f p = record {
 }
 
 -- the whole of a replay
-pub played : (n : Net) (bs : List ℕ) (l x k : Lent) (r : Replayed) → Begun n l x → Ran n bs x k r → Stands n k → Played n bs l k r
+pub played : (n : SystemNet) (bs : List ℕ) (l x k : Lent) (r : Replayed) → Begun n l x → Ran n bs x k r → Stands n k → Played n bs l k r
 played n bs l x k r h p s = record { start = x; begun = h; ran = p; stands = s; reachable = run; bounded = λ c b u. u (marking k) run }
   where
     run : Reachable n (marking k)
@@ -90,13 +90,13 @@ answered k (Ok u) o e = ap (λ (x : Option Stop). record { carried = k; stop = x
 answered k (Err s) o e = ap (λ (x : Option Stop). record { carried = k; stop = x }) (sym e)
 
 -- what a trace says is what was replayed
-replays : (n : Net) (bs : List ℕ) (ms : List Move) (c : Close) (l k : Lent) (r : Replayed) → Ran n bs l k r → SaysOnly bs ms c → Plays n ms c l k r
+replays : (n : SystemNet) (bs : List ℕ) (ms : List Move) (c : Close) (l k : Lent) (r : Replayed) → Ran n bs l k r → SaysOnly bs ms c → Plays n ms c l k r
 replays n bs ms c l k r h s =
     let e = s.only h.said h.close h.says.this in
     subst (λ (x : List Move). Plays n x c l k r) e.0 (subst (λ (x : Close). Plays n h.said x l k r) e.1 h.plays)
 
 -- the commands recorded are those replayed
-pub recording_called : (n : Net) (mem : List ℕ) (e : EndedRecording) (bs cells : List ℕ) (trail : LentList Firing) (cells' : List ℕ) (trail' : LentList Firing) (r : Result Replayed Fault) → length mem ≡ e.room → bs ≡ take e.len mem
+pub recording_called : (n : SystemNet) (mem : List ℕ) (e : EndedRecording) (bs cells : List ℕ) (trail : LentList Firing) (cells' : List ℕ) (trail' : LentList Firing) (r : Result Replayed Fault) → length mem ≡ e.room → bs ≡ take e.len mem
     → ReplayCalled n bs cells trail cells' trail' r → RecordingCalled n mem e cells trail cells' trail' r
 recording_called n mem e bs cells trail cells' trail' (Ok r) l b h =
     let k = lends cells' trail' in

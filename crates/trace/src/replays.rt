@@ -6,6 +6,7 @@ ghost use Rattle.trace.specs.Carrying.{CarryCalled};
 ghost use Rattle.trace.specs.Moves.{move_of};
 ghost use Rattle.trace.specs.Replaying.{Ran, RecordingCalled, ReplayCalled, replayed};
 ghost use Rattle.trace.specs.Stops.{cell_of};
+ghost use Rattle.net.specs.Of.{system};
 
 use crate::commands::{Command, first};
 use crate::recording::EndedRecording;
@@ -60,9 +61,9 @@ fn carry_out(
     trail: &mut LentList<Firing>,
     command: Command,
 ) -> Result<(), Fault>
-    requires { Stands net.now (lent counts.old trail.old) }
-    ensures called { CarryCalled net.now (move_of command) (lent counts.old trail.old) (lent counts.new trail.new) result }
-    ensures stands { Stands net.now (lent counts.new trail.new) }
+    requires { Stands (system net.now) (lent counts.old trail.old) }
+    ensures called { CarryCalled (system net.now) (move_of command) (lent counts.old trail.old) (lent counts.new trail.new) result }
+    ensures stands { Stands (system net.now) (lent counts.new trail.new) }
     ensures counts_loan { loan counts.new ≡ loan counts.old }
     ensures trail_loan { list.loan trail.new ≡ list.loan trail.old }
 {
@@ -92,9 +93,9 @@ fn carry_all(
     carried: &mut u32,
 ) -> Result<(), Stop>
     requires counted { carried.old ≡ 0 }
-    requires stands { Stands net.now (lent counts.old trail.old) }
-    ensures ran { Ran net.now bytes.now (lent counts.old trail.old) (lent counts.new trail.new) (replayed carried.new result) }
-    ensures stands { Stands net.now (lent counts.new trail.new) }
+    requires stands { Stands (system net.now) (lent counts.old trail.old) }
+    ensures ran { Ran (system net.now) bytes.now (lent counts.old trail.old) (lent counts.new trail.new) (replayed carried.new result) }
+    ensures stands { Stands (system net.now) (lent counts.new trail.new) }
     ensures counts_loan { loan counts.new ≡ loan counts.old }
     ensures trail_loan { list.loan trail.new ≡ list.loan trail.old }
 {
@@ -117,7 +118,7 @@ pub fn replay(
     trail: &mut LentList<Firing>,
     bytes: &[u8],
 ) -> Result<Replayed, Fault>
-    ensures { ReplayCalled net.now bytes.now cells.old trail.old cells.new trail.new result }
+    ensures { ReplayCalled (system net.now) bytes.now cells.old trail.old cells.new trail.new result }
 {
     measure(cells)?;
     let mut counts = Counts { cells };
@@ -138,7 +139,7 @@ pub fn replay_recording(
     ended: &EndedRecording,
     memory: &[u8],
 ) -> Result<Replayed, Fault>
-    ensures { RecordingCalled net.now memory.now ended.now cells.old trail.old cells.new trail.new result }
+    ensures { RecordingCalled (system net.now) memory.now ended.now cells.old trail.old cells.new trail.new result }
 {
     let bytes = ended.trace(memory)?;
     replay(net, cells, trail, bytes)

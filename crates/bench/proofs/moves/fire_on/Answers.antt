@@ -6,9 +6,10 @@ use Rattle.bench.specs.Counted.{tokens}
 use Rattle.bench.proofs.Fired.{fires, never-full, refused, roomy, sized, small-after}
 use Rattle.bench.proofs.Walks.{more}
 use Rattle.bench.proofs.moves.fire_on.Goals as goal
+use Rattle.net.specs.Of.{system}
 use Rattle.bench.proofs.moves.fire_on.Goals.{After-from_residual-in_err-checked, After-shift}
 
-why : (c : After-from_residual-in_err-checked) → FireCalled c.args.net.now c.args.firing (lent c.args.counts.now c.args.trail.now) (lent c.args.counts.now c.args.trail.now) c.from_residual-in_err-checked.result
+why : (c : After-from_residual-in_err-checked) → FireCalled (system c.args.net.now) c.args.firing (lent c.args.counts.now c.args.trail.now) (lent c.args.counts.now c.args.trail.now) c.from_residual-in_err-checked.result
 why c =
     let e = err_from_is_err_and c.from_residual-in_err-checked.result c.from_residual-in_err-checked.ensures.1 in
     rw (e.1, e.2) (refused (sized c.args.counts.now c.of-change.ensures.takes c.of-change.ensures.puts c.small.ensures) c.args.trail.now c.in_ok-opened.ensures c.in_err-checked.field-0.0 c.in_err-checked.ensures, refl)
@@ -20,9 +21,9 @@ pub returns-in_err-checked-clause-never_full : goal.returns-in_err-checked-claus
 returns-in_err-checked-clause-never_full c = λ led.
     let four : length c.args.firing.mode ≡ 4 = search rules in
     let l = lent c.args.counts.now c.args.trail.now in
-    never-full c.args.net.now c.args.firing l l c.from_residual-in_err-checked.result four (why c) led
+    never-full (system c.args.net.now) c.args.firing l l c.from_residual-in_err-checked.result four (why c) led
 
-fired : (c : After-shift) → Fires c.args.net.now c.args.firing.transition c.args.firing.mode (tokens c.args.counts.now) (tokens c.shift.new.self)
+fired : (c : After-shift) → Fires (system c.args.net.now) c.args.firing.transition c.args.firing.mode (tokens c.args.counts.now) (tokens c.shift.new.self)
 fired c =
     let four : length c.args.firing.mode ≡ 4 = search rules in
     fires (sized c.args.counts.now c.of-change.ensures.takes c.of-change.ensures.puts c.small.ensures) c.in_ok-opened.ensures four c.in_ok-checked.ensures (tokens c.shift.new.self) c.shift.ensures.shifted
@@ -34,7 +35,7 @@ returns-in-Ok-clause-called c =
 pub returns-in-Ok-clause-stands : goal.returns-in-Ok-clause-stands
 returns-in-Ok-clause-stands c = λ led.
     let low = small-after c.args.counts.now c.of-change.result c.in_ok-checked.ensures (tokens c.shift.new.self) c.shift.ensures.shifted in
-    more c.args.net.now _ _ c.args.firing (tokens c.args.counts.now) (tokens c.shift.new.self) c.in-Ok.ensures.cases.0 (fired (goal.at.returns-in-Ok-clause-stands c).After-shift) low led
+    more (system c.args.net.now) _ _ c.args.firing (tokens c.args.counts.now) (tokens c.shift.new.self) c.in-Ok.ensures.cases.0 (fired (goal.at.returns-in-Ok-clause-stands c).After-shift) low led
 
 pub returns-in-Err-clause-called : goal.returns-in-Err-clause-called
 returns-in-Err-clause-called c =

@@ -8,6 +8,7 @@ use Rattle.trace.specs.Moves.{move_of}
 use Rattle.trace.specs.Stops.{cell_of}
 use Rattle.trace.specs.Reading.{close, end, fault, first_of, move}
 use Rattle.trace.proofs.Played.{few, going_on, ran_closed, ran_down, ran_long}
+use Rattle.net.specs.Of.{system}
 use Rattle.trace.proofs.replays.carry_all.Goals as goal
 
 pub returns-then-bytes-gt-LONGEST-clause-ran : goal.returns-then-bytes-gt-LONGEST-clause-ran
@@ -28,7 +29,7 @@ pub returns-in_err-carry_out-clause-ran : goal.returns-in_err-carry_out-clause-r
 returns-in_err-carry_out-clause-ran c =
     let i = c.commands.invariant in
     let e = err_from_is_err_and c.from_residual-in_err-carry_out.result c.from_residual-in_err-carry_out.ensures.1 in
-    let n = c.args.net.now in
+    let n = system c.args.net.now in
     let m = move_of c.in-Some.command in
     let was = lent c.commands.counts c.commands.trail in
     let s = e.0 in

@@ -3,11 +3,12 @@ use Rattle.bench.specs.Calls.{lent}
 use Rattle.trace.specs.Replaying.{Played, Ran, lends}
 use Rattle.trace.specs.declared.replays.Replayed.{Replayed}
 use Rattle.trace.proofs.Played.{answered, played}
+use Rattle.net.specs.Of.{system}
 use Rattle.trace.proofs.replays.replay.Goals as goal
 
 pub returns : goal.returns
 returns c =
-    let n = c.args.net.now in
+    let n = (system c.args.net.now) in
     let bs = c.args.bytes.now in
     let x = lent c.begin_on.new.counts c.begin_on.new.trail in
     let k = lent c.carry_all-end.new.counts c.carry_all-end.new.trail in
