@@ -4,3 +4,4 @@ pub mod Nets
 pub mod Runs
 pub mod Reading
 pub mod Of
+pub mod Written
