@@ -1,4 +1,5 @@
 pub mod Arcs
+pub mod Cells
 pub mod Checked
 pub mod Coded
 pub mod Loaded

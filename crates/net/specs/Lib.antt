@@ -5,3 +5,4 @@ pub mod Runs
 pub mod Reading
 pub mod Of
 pub mod Written
+pub mod Sound
