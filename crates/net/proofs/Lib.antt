@@ -3,6 +3,7 @@ pub mod Cells
 pub mod Checked
 pub mod Coded
 pub mod Loaded
+pub mod Operands
 pub mod Renewed
 pub mod Sides
 pub mod Tallied
