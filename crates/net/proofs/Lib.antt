@@ -2,9 +2,13 @@ pub mod Arcs
 pub mod Cells
 pub mod Checked
 pub mod Coded
+pub mod Codings
 pub mod Loaded
+pub mod Moves
+pub mod Newest
 pub mod Operands
 pub mod Renewed
 pub mod Sides
+pub mod Signatures
 pub mod Tallied
 pub mod Turns

@@ -30,8 +30,8 @@ pub record Varied (sizes : List ℕ) (v : List ℕ) : Type 0 where
 -- what the format says of each command, in a file of bytes
 abbrev pub Valid : Setting → Said → Type 0
 Valid x (sort n) = (1 ≤ n) × (n ≤ 64)
-Valid x (operation n a b r t) = SoundOperation x.signature (record { arguments = arguments_of n a b; result = r; table = t })
-Valid x (bag_operation a r t) = SoundBagOperation x.signature (record { argument = a; result = r; table = t })
+Valid x (operation n a b r t) = SoundOperation x.signature.sizes (record { arguments = arguments_of n a b; result = r; table = t })
+Valid x (bag_operation a r t) = SoundBagOperation x.signature.sizes (record { argument = a; result = r; table = t })
 Valid x (place s) = s < length x.signature.sizes
 Valid x (tokens p e n) = (e < place_size x.signature.sizes x.places p) × (n < 65536)
 Valid x (transition v) = Varied x.signature.sizes v
@@ -111,7 +111,7 @@ none_bad n i (b ∷ bs) e = by (leb n b) refl e (none_bad n (i + 1) bs)
     by false f g r = All-cons (λ b. b < n) b bs (omega (arith, leb-false n b f)) (r g)
 
 -- the arguments of a command
-arguments_fit : (s : Sig) (n a b : ℕ) → n ≤ 2 → fitting s.sizes (ltb 0 n) a ≡ true → fitting s.sizes (ltb 1 n) b ≡ true → ArgumentsDeclared s (arguments_of n a b)
+arguments_fit : (sizes : List ℕ) (n a b : ℕ) → n ≤ 2 → fitting sizes (ltb 0 n) a ≡ true → fitting sizes (ltb 1 n) b ≡ true → ArgumentsDeclared sizes (arguments_of n a b)
 arguments_fit s zero a b h f g = tt
 arguments_fit s (suc zero) a b h f g = ltb-true _ _ f
 arguments_fit s (suc (suc zero)) a b h f g = (ltb-true _ _ f, ltb-true _ _ g)
@@ -192,23 +192,22 @@ module _ (x : Setting) (bs : List ℕ) (bytes : Bytes bs) where
       let p = and_parts _ _ h in
       plain 2 (sort (at 1)) (omega arith) (ltb-true _ _ l1) refl (leb-true _ _ p.0, leb-true _ _ p.1)))
   taken code.Operation =
-      let m = combinations sizes (arguments_of (at 1) (at 2) (at 3)) in
       when (ltb 1 (length bs)) _ _ (λ l1. when (leb (at 1) 2) _ _ (λ few. when (ltb 2 (length bs)) _ _ (λ l2. when (fitting sizes (ltb 0 (at 1)) (at 2)) _ _ (λ f.
       when (ltb 3 (length bs)) _ _ (λ l3. when (fitting sizes (ltb 1 (at 1)) (at 3)) _ _ (λ g. when (ltb 4 (length bs)) _ _ (λ l4. when (ltb (at 4) (length sizes)) _ _ (λ known.
-      checked m (leb-true _ _ few) f g (ltb-true _ _ l4) (ltb-true _ _ known) (first_bad (size_of sizes (at 4)) (take m (drop 5 bs))) refl))))))))
+      checked (leb-true _ _ few) f g (ltb-true _ _ l4) (ltb-true _ _ known) (first_bad (size_of sizes (at 4)) (take (combinations sizes (arguments_of (at 1) (at 2) (at 3))) (drop 5 bs))) refl))))))))
     where
-      checked : (m : ℕ) → at 1 ≤ 2 → fitting sizes (ltb 0 (at 1)) (at 2) ≡ true → fitting sizes (ltb 1 (at 1)) (at 3) ≡ true → 4 < length bs → at 4 < length sizes
+      checked : at 1 ≤ 2 → fitting sizes (ltb 0 (at 1)) (at 2) ≡ true → fitting sizes (ltb 1 (at 1)) (at 3) ≡ true → 4 < length bs → at 4 < length sizes
           → (o : Option ℕ) → first_bad (size_of sizes (at 4)) (take (combinations sizes (arguments_of (at 1) (at 2) (at 3))) (drop 5 bs)) ≡ o
           → Goal (with_table (unless_bad o (drop 5 bs) x.ends (counts_at (drop 5 bs) x.ends (combinations sizes (arguments_of (at 1) (at 2) (at 3))))) (operation (at 1) (at 2) (at 3) (at 4)))
-      checked m few f g long known None e =
+      checked few f g long known None e =
           let k = combinations sizes (arguments_of (at 1) (at 2) (at 3)) in
           tabled 5 k (operation (at 1) (at 2) (at 3) (at 4)) (omega arith) long refl (λ h. record {
-            arguments = arguments_fit x.signature (at 1) (at 2) (at 3) few f g;
+            arguments = arguments_fit sizes (at 1) (at 2) (at 3) few f g;
             result = known;
             whole = h;
             results = none_bad (size_of sizes (at 4)) 0 (take k (drop 5 bs)) e;
           }) (leb k (length (drop 5 bs))) _ refl
-      checked m few f g long known (Some i) e = tt
+      checked few f g long known (Some i) e = tt
   taken code.BagOperation =
       let m = size_of sizes (at 1) * size_of sizes (at 2) in
       when (ltb 1 (length bs)) _ _ (λ l1. when (ltb (at 1) (length sizes)) _ _ (λ a. when (ltb 2 (length bs)) _ _ (λ l2. when (ltb (at 2) (length sizes)) _ _ (λ r.

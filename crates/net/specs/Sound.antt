@@ -3,10 +3,10 @@ use Rattle.std.specs.Prelude.{◌≡◌, ℕ, ◌+◌, ◌*◌, ◌^◌, ◌<◌
 use Rattle.std.specs.List.{All}
 use Rattle.std.specs.Option.{option_map_or}
 use Rattle.domain.specs.Kinds.{kind_weighs}
-use Rattle.format.specs.Format.{combinations, mode_count, variable_sizes}
+use Rattle.format.specs.Format.{combinations, mode_count, size_of, variable_sizes}
 use Rattle.term.specs.declared.signature.Arguments.{Arguments}
 use Rattle.term.specs.declared.signature.Arguments.TheVariants as arguments
-use Rattle.term.specs.Meaning.{BagOperation, Operation, Sig, bag_sorted, size, sorted}
+use Rattle.term.specs.Meaning.{BagOperation, Operation, Sig, bag_sorted, sorted}
 use Rattle.term.specs.Prefix.{bag_at, term_at}
 use Rattle.net.specs.declared.parts.Claim.{Claim}
 use Rattle.net.specs.Nets.{HasCell, depth}
@@ -19,28 +19,28 @@ use Rattle.net.specs.Written.{bag_bytes, term_bytes}
 abbrev pub Bytes : List ℕ → Type 0
 Bytes bs = All (λ b. b < 256) bs
 
--- a sort is declared
-abbrev pub Declared : Sig → ℕ → Type 0
-Declared s k = k < length s.sizes
+-- a sort is declared, where sorts have these sizes
+abbrev pub Declared : List ℕ → ℕ → Type 0
+Declared sizes k = k < length sizes
 
--- the arguments that there are are of declared sorts
-abbrev pub ArgumentsDeclared : Sig → Arguments → Type 0
-ArgumentsDeclared s arguments.None = Unit {0}
-ArgumentsDeclared s (arguments.One a) = Declared s a
-ArgumentsDeclared s (arguments.Two a b) = Declared s a × Declared s b
+-- those arguments that there are are of declared sorts
+abbrev pub ArgumentsDeclared : List ℕ → Arguments → Type 0
+ArgumentsDeclared sizes arguments.None = Unit {0}
+ArgumentsDeclared sizes (arguments.One a) = Declared sizes a
+ArgumentsDeclared sizes (arguments.Two a b) = Declared sizes a × Declared sizes b
 
 -- an operation has a result for each combination of its arguments, an element of its result sort
-pub record SoundOperation (s : Sig) (o : Operation) : Type 0 where
-  pub arguments : ArgumentsDeclared s o.arguments
-  pub result : Declared s o.result
-  pub whole : length o.table ≡ combinations s.sizes o.arguments
-  pub results : All (λ e. e < size s o.result) o.table
+pub record SoundOperation (sizes : List ℕ) (o : Operation) : Type 0 where
+  pub arguments : ArgumentsDeclared sizes o.arguments
+  pub result : Declared sizes o.result
+  pub whole : length o.table ≡ combinations sizes o.arguments
+  pub results : All (λ e. e < size_of sizes o.result) o.table
 
 -- a bag operation has for each argument a count for each element of its result sort, below 256
-pub record SoundBagOperation (s : Sig) (o : BagOperation) : Type 0 where
-  pub argument : Declared s o.argument
-  pub result : Declared s o.result
-  pub whole : length o.table ≡ size s o.argument * size s o.result
+pub record SoundBagOperation (sizes : List ℕ) (o : BagOperation) : Type 0 where
+  pub argument : Declared sizes o.argument
+  pub result : Declared sizes o.result
+  pub whole : length o.table ≡ size_of sizes o.argument * size_of sizes o.result
   pub counts : Bytes o.table
 
 -- bytes are one term of a sort, and nothing else
@@ -66,7 +66,7 @@ pub record SoundArc (s : Sig) (places vars : List ℕ) (a : Arc) : Type 0 where
 -- a transition has at most 4 variables, of declared sorts, and 65,536 modes
 pub record SoundTransition (s : Sig) (places : List ℕ) (t : Transition) : Type 0 where
   pub few : length t.sorts ≤ 4
-  pub sorts : All (Declared s) t.sorts
+  pub sorts : All (Declared s.sizes) t.sorts
   pub sizes : t.sizes ≡ variable_sizes s.sizes (length t.sorts) t.sorts
   pub modes : mode_count t.sizes ≤ 65536
   pub guard : SoundGuard s t.sorts t.guard
@@ -85,17 +85,17 @@ bytes_of t = option_map_or length t.guard 0 + (spans t.takes + spans t.puts)
 pub record Sound (n : SystemNet) : Type 0 where
   -- at most 8 sorts; sort 0 has two elements, and every sort 1 to 64
   pub sorts : length n.sig.sizes ≤ 8
-  pub truths : size n.sig 0 ≡ 2
+  pub truths : size_of n.sig.sizes 0 ≡ 2
   pub inhabited : All (λ k. 1 ≤ k) n.sig.sizes
   pub sizes : All (λ k. k ≤ 64) n.sig.sizes
   -- at most 32 operations and 8 bag operations
   pub few_operations : length n.sig.operations ≤ 32
-  pub operations : All (SoundOperation n.sig) n.sig.operations
+  pub operations : All (SoundOperation n.sig.sizes) n.sig.operations
   pub few_bags : length n.sig.bags ≤ 8
-  pub bags : All (SoundBagOperation n.sig) n.sig.bags
+  pub bags : All (SoundBagOperation n.sig.sizes) n.sig.bags
   -- at most 16 places, of declared sorts
   pub few_places : length n.places ≤ 16
-  pub places : All (Declared n.sig) n.places
+  pub places : All (Declared n.sig.sizes) n.places
   -- the initial marking has 1,024 counts of 16 bits; those that are no cells are 0
   pub marked : length n.initial ≡ 1024
   pub counts : All (λ k. k < 2 ^ 16) n.initial
