@@ -1,4 +1,5 @@
 pub mod Arcs
+pub mod Built
 pub mod Cells
 pub mod Checked
 pub mod Coded
@@ -10,5 +11,7 @@ pub mod Operands
 pub mod Renewed
 pub mod Sides
 pub mod Signatures
+pub mod Soundness
+pub mod Stages
 pub mod Tallied
 pub mod Turns
