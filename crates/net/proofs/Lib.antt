@@ -1,4 +1,5 @@
 pub mod Arcs
+pub mod Bounds
 pub mod Built
 pub mod Cells
 pub mod Checked

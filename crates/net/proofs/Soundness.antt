@@ -16,7 +16,9 @@ use Rattle.format.specs.declared.command.Direction.TheVariants as direction
 use Rattle.format.specs.declared.section.Section.{Section}
 use Rattle.format.specs.declared.section.Section.TheVariants as section
 use Rattle.net.specs.Nets.{HasCell}
-use Rattle.net.specs.Reading.{Opening, Step, Told, add, after, arc_count, carried, commands, empty, entered, full, known, last, next, opened, opening, setting, step, stop, told, went}
+use Rattle.net.specs.declared.reader.ReadError.{ReadError}
+use Rattle.net.specs.declared.reader.ReadError.TheVariants.{File, Memory}
+use Rattle.net.specs.Reading.{Opening, Reads, Step, Told, add, after, arc_count, carried, commands, empty, entered, full, known, last, next, opened, opening, setting, step, stop, told, went}
 use Rattle.net.specs.Sound.{Bytes, Sound, SoundClaim, bytes_of}
 use Rattle.net.specs.System.{SystemNet}
 use Rattle.net.proofs.Built.{Built, add_arc, add_bag_operation, add_claim, add_element_weight, add_guard, add_operation, add_place, add_place_weight, add_sort, add_tokens, add_transition}
@@ -178,3 +180,9 @@ told_sound file o =
 -- every net that a file of bytes tells is sound
 pub sound : (file : List ℕ) → Bytes file → (n : SystemNet) → told file ≡ Ok n → Sound n
 sound file o n e = subst Tells e (told_sound file o)
+
+-- and so is what the reader leaves
+pub reads_sound : (r : Result (Unit {0}) ReadError) (file : List ℕ) (n : SystemNet) → Bytes file → Reads r file n → Sound n
+reads_sound (Ok u) file n o h = sound file o n h
+reads_sound (Err (File e)) file n o h = subst Sound (sym h.1) sound_empty
+reads_sound (Err Memory) file n o h = subst Sound (sym h) sound_empty
