@@ -1,5 +1,5 @@
 -- What soundness bounds: the tokens of one side of a firing in a cell, and the modes.
-use Rattle.std.proofs.Common.{◌≡◌, ℕ, zero, suc, ◌+◌, ◌-◌, ◌*◌, ◌<◌, ◌≤◌, Bool, true, false, cond, eqb, ltb, leb, List, [], ◌∷◌, ◌++◌, length, get_or, ap, ⊎_elim, arith}
+use Rattle.std.proofs.Common.{◌≡◌, ℕ, suc, ◌+◌, ◌-◌, ◌*◌, ◌<◌, ◌≤◌, Bool, true, false, eqb, ltb, leb, List, [], ◌∷◌, length, get_or, ap, ⊎_elim, arith}
 use Rattle.std.specs.List.{All, sum_by}
 use Rattle.std.proofs.lemmas.List.{get_or_past, length-append}
 use Rattle.std.proofs.lemmas.List.Sums.{get_or-le-sum_by, sum_by-cons, sum_by-le}
@@ -10,7 +10,7 @@ use Rattle.format.specs.declared.command.Direction.TheVariants as direction
 use Rattle.term.specs.Meaning.{Bag, BagOperation, Sig, Term, apply, bag_operation, both, constant, copies_in, count, empty, equal, flexible, negate, no_bag, single, size, sum, truth, value, variable}
 use Rattle.net.specs.Nets.{arcs_of, bag_of, given, part, side, taken, transition}
 use Rattle.net.specs.Sound.{Bytes, Sound, SoundArc, SoundTransition, bytes_of}
-use Rattle.net.specs.Spans.{Arc, span, spans, towards}
+use Rattle.net.specs.Spans.{Arc, span, spans}
 use Rattle.net.specs.System.{SystemNet, Transition, no_transition}
 use Rattle.net.specs.Written.{bag_bytes, term_bytes}
 

@@ -1,5 +1,5 @@
 -- A net as it is built, command by command: what holds of it in each section of a file.
-use Rattle.std.proofs.Common.{◌≡◌, ℕ, ◌+◌, ◌-◌, ◌*◌, ◌<◌, ◌≤◌, true, List, [], ◌∷◌, ◌++◌, length, set, ℤ, arith}
+use Rattle.std.proofs.Common.{◌≡◌, ℕ, ◌+◌, ◌*◌, ◌<◌, ◌≤◌, true, List, [], ◌∷◌, ◌++◌, length, set, ℤ, arith}
 use Rattle.domain.specs.Kinds.{kind_of, kind_weighs}
 use Rattle.format.specs.Commands.{arc, arguments_of, bag_operation, claim, element_weight, guard, operation, place, place_weight, sort, tokens, transition}
 use Rattle.format.specs.Format.{place_size}
@@ -10,7 +10,6 @@ use Rattle.net.specs.declared.parts.Claim.{Claim}
 use Rattle.net.specs.Nets.{no_claim}
 use Rattle.net.specs.Reading.{add, arc_count, newest}
 use Rattle.net.specs.Sound.{IsTerm, SoundArc, SoundBagOperation, SoundOperation}
-use Rattle.net.specs.Spans.{Arc}
 use Rattle.net.specs.System.{SystemNet, Transition, no_transition}
 use Rattle.net.proofs.Cells.{Marked, marked_place, marked_sort, marked_tokens}
 use Rattle.net.proofs.Codings.{Codings, codings_before, codings_claim, codings_element, codings_place}

@@ -10,7 +10,7 @@ use Rattle.format.specs.Format.{place_size, size_of}
 use Rattle.net.specs.declared.parts.Claim.{Claim}
 use Rattle.net.specs.Nets.{no_claim}
 use Rattle.net.specs.Reading.{coded, newest, put_row, renew}
-use Rattle.net.proofs.Cells.{alike, cell, changed_at, in_row, place_small, row_all, row_at, row_length, zero_weighs}
+use Rattle.net.proofs.Cells.{alike, cell, changed_at, in_row, row_all, row_at, row_length, zero_weighs}
 use Rattle.net.proofs.Newest.{renew_all}
 
 -- a claim has 1,024 codes, weights of its kind, 0 where there is no cell

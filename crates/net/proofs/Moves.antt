@@ -1,5 +1,5 @@
 -- Transitions, their guards and their arcs, as they are told.
-use Rattle.std.proofs.Common.{◌≡◌, ℕ, ◌+◌, ◌-◌, ◌<◌, ◌≤◌, List, [], ◌∷◌, ◌++◌, length, None, Some, sum_by, refl, arith}
+use Rattle.std.proofs.Common.{◌≡◌, ℕ, ◌+◌, ◌-◌, ◌<◌, ◌≤◌, List, [], ◌∷◌, ◌++◌, length, None, sum_by, refl, arith}
 use Rattle.std.specs.List.{All}
 use Rattle.std.proofs.lemmas.List.{length_push, length-set}
 use Rattle.std.proofs.lemmas.List.Elements.{All-nil, All-push}
@@ -10,7 +10,7 @@ use Rattle.format.specs.declared.command.Direction.TheVariants as direction
 use Rattle.term.specs.Meaning.{Sig}
 use Rattle.net.specs.Reading.{guarded, linked, newest, renew}
 use Rattle.net.specs.Sound.{IsTerm, SoundArc, SoundTransition, bytes_of}
-use Rattle.net.specs.Spans.{Arc, span, spans}
+use Rattle.net.specs.Spans.{Arc, span}
 use Rattle.net.specs.System.{Transition, no_transition}
 use Rattle.net.proofs.Newest.{renew_all, renew_sum}
 use Rattle.net.proofs.Operands.{Varied}

@@ -1,5 +1,5 @@
 -- What holds of every command that the format says.
-use Rattle.std.proofs.Common.{◌≡◌, ℕ, zero, suc, ◌+◌, ◌-◌, ◌*◌, ◌^◌, ◌<◌, ◌≤◌, Bool, true, false, cond, ◌&&◌, eqb, ltb, leb, List, [], ◌∷◌, ◌++◌, length, get_or, take, drop, ℤ, Some, None, Option, sym, refl, ap, ◌∙◌, subst, arith, ltb-true, leb-true, leb-false, eqb-true}
+use Rattle.std.proofs.Common.{◌≡◌, ℕ, zero, suc, ◌+◌, ◌*◌, ◌<◌, ◌≤◌, Bool, true, false, cond, ◌&&◌, ltb, leb, List, [], ◌∷◌, ◌++◌, length, get_or, take, drop, ℤ, Some, None, Option, sym, refl, ap, ◌∙◌, subst, arith, ltb-true, leb-true, leb-false}
 use Rattle.std.specs.List.{All, position_from}
 use Rattle.std.proofs.lemmas.List.{append-nil, drop_at, length-append, length-drop, length-take-le}
 use Rattle.std.proofs.lemmas.List.Elements.{All-cons, All-drop, All-nil, All-take}
@@ -7,17 +7,17 @@ use Rattle.std.proofs.lemmas.Bool.{and_parts, cond_both}
 use Rattle.std.proofs.lemmas.Option.{none-some}
 use Rattle.domain.specs.Kinds.{kind_weighs}
 use Rattle.term.specs.Check.{Checked, bad, done}
-use Rattle.term.specs.Meaning.{Sig, bag_sorted, size, sorted}
+use Rattle.term.specs.Meaning.{Sig, bag_sorted, sorted}
 use Rattle.term.specs.Prefix.{Read, ReadBag, bag_at, term_at}
 use Rattle.term.specs.declared.fault.FileFault.{FileFault}
 use Rattle.format.specs.Commands.{Said, arc, arguments_of, bag_operation, claim, element_weight, end, fault, guard, operation, place, place_weight, said, sort, tokens, transition}
 use Rattle.format.specs.Commands as commands
-use Rattle.format.specs.Format.{Setting, arc_at, arc_bag, both, combinations, counts_at, first_bad, fitting, front_of, guard_at, guard_term, mode_count, modulus_fits, neither, parse_at, place_size, signed, size_of, transition_at, unless_bad, variable_sizes, with_table, with_term}
+use Rattle.format.specs.Format.{Setting, arc_at, arc_bag, both, combinations, counts_at, first_bad, fitting, front_of, guard_term, mode_count, modulus_fits, neither, parse_at, place_size, signed, size_of, unless_bad, variable_sizes, with_table, with_term}
 use Rattle.format.specs.declared.command.Code.{Code}
 use Rattle.format.specs.declared.command.Code.TheVariants as code
 use Rattle.format.specs.declared.command.Direction.{Direction}
 use Rattle.format.specs.declared.command.Direction.TheVariants as direction
-use Rattle.net.specs.Sound.{ArgumentsDeclared, Bytes, Declared, IsBag, IsTerm, SoundArc, SoundBagOperation, SoundOperation}
+use Rattle.net.specs.Sound.{ArgumentsDeclared, Bytes, IsBag, IsTerm, SoundArc, SoundBagOperation, SoundOperation}
 use Rattle.net.specs.Written.{bag_bytes, term_bytes}
 use Rattle.net.proofs.Checked.{Leaves, Spelt, SpeltBag, bag_spelt, leave, own_front, term_spelt}
 

@@ -1,25 +1,21 @@
 -- Every net that a file tells is sound.
-use Rattle.std.proofs.Common.{◌≡◌, ℕ, zero, suc, ◌+◌, ◌/◌, ◌%◌, ◌<◌, ◌≤◌, Bool, true, false, ltb, leb, List, [], ◌∷◌, length, get_or, replicate, ℤ, pos, Some, None, Ok, Err, Option, Result, sum_by, sym, refl, subst, ⊎_elim, arith, leb-false, leb-true, cond, ap, ◌∙◌}
-use Rattle.std.specs.List.{All}
+use Rattle.std.proofs.Common.{◌≡◌, ℕ, zero, suc, ◌+◌, ◌/◌, ◌%◌, ◌<◌, ◌≤◌, false, ltb, leb, List, [], length, get_or, pos, Some, None, Ok, Err, Option, Result, sum_by, sym, refl, subst, ⊎_elim, arith, leb-false, leb-true}
 use Rattle.std.proofs.lemmas.List.{get_or_past, length-replicate}
 use Rattle.std.proofs.lemmas.List.Elements.{All-cons, All-nil, All-replicate}
 use Rattle.std.proofs.lemmas.Bool.{cases_lt, cond_both, le-ltb}
-use Rattle.term.specs.declared.fault.FileFault.{FileFault}
 use Rattle.format.specs.Codes.{code_of}
 use Rattle.format.specs.Commands.{Read, Said, arc, bag_operation, claim, element_weight, end, fault, guard, operation, place, place_weight, said, sort, tokens, transition}
 use Rattle.format.specs.Format.{parse_at, place_size}
 use Rattle.format.specs.Order.{enters}
 use Rattle.format.specs.declared.command.Code.{Code}
-use Rattle.format.specs.declared.command.Code.TheVariants as code
-use Rattle.format.specs.declared.command.Direction.{Direction}
 use Rattle.format.specs.declared.command.Direction.TheVariants as direction
 use Rattle.format.specs.declared.section.Section.{Section}
 use Rattle.format.specs.declared.section.Section.TheVariants as section
 use Rattle.net.specs.Nets.{HasCell}
 use Rattle.net.specs.declared.reader.ReadError.{ReadError}
 use Rattle.net.specs.declared.reader.ReadError.TheVariants.{File, Memory}
-use Rattle.net.specs.Reading.{Opening, Reads, Step, Told, add, after, arc_count, carried, commands, empty, entered, full, known, last, next, opened, opening, setting, step, stop, told, went}
-use Rattle.net.specs.Sound.{Bytes, Sound, SoundClaim, bytes_of}
+use Rattle.net.specs.Reading.{Opening, Reads, Step, Told, add, after, arc_count, carried, commands, empty, entered, full, known, last, next, opened, setting, step, stop, told, went}
+use Rattle.net.specs.Sound.{Bytes, Sound, bytes_of}
 use Rattle.net.specs.System.{SystemNet}
 use Rattle.net.proofs.Built.{Built, add_arc, add_bag_operation, add_claim, add_element_weight, add_guard, add_operation, add_place, add_place_weight, add_sort, add_tokens, add_transition}
 use Rattle.net.proofs.Cells.{alike, cell}
