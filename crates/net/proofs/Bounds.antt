@@ -8,7 +8,7 @@ use Rattle.format.specs.Format.{mode_count}
 use Rattle.format.specs.declared.command.Direction.{Direction}
 use Rattle.format.specs.declared.command.Direction.TheVariants as direction
 use Rattle.term.specs.Meaning.{Bag, BagOperation, Sig, Term, apply, bag_operation, both, constant, copies_in, count, empty, equal, flexible, negate, no_bag, single, size, sum, truth, value, variable}
-use Rattle.net.specs.Nets.{arcs_of, bag_of, given, part, side, taken, transition}
+use Rattle.net.specs.Nets.{arcs_of, bag_of, given, largest_side, part, side, taken, transition}
 use Rattle.net.specs.Sound.{Bytes, Sound, SoundArc, SoundTransition, bytes_of}
 use Rattle.net.specs.Spans.{Arc, span, spans}
 use Rattle.net.specs.System.{SystemNet, Transition, no_transition}
@@ -65,9 +65,8 @@ module _ (n : SystemNet) (sound : Sound n) (m : List ℕ) where
       let y = all_arcs places vars xs c (rest_all (SoundArc n.sig places vars) a xs h) in
       omega (arith, sum_by-cons (part n m c) a xs, sum_by-cons span a xs)
 
-  -- one side of a firing has at most 4,177,920 tokens in a cell: 255 for each 4 of 65,536 bytes
   abbrev Few : ℕ → Direction → ℕ → Type 0
-  Few t d c = side n m (arcs_of n t d) c ≤ 4177920
+  Few t d c = side n m (arcs_of n t d) c ≤ largest_side
 
   absent : (t c : ℕ) (d : Direction) → transition n t ≡ no_transition → Few t d c
   absent t c direction.In e = let x = ap (λ (h : Transition). side n m h.takes c) e in omega arith
@@ -94,10 +93,10 @@ module _ (n : SystemNet) (sound : Sound n) (m : List ℕ) where
       (cases_lt t (length n.transitions))
 
 -- what a transition takes and puts
-pub few_taken : (n : SystemNet) → Sound n → (t : ℕ) (m : List ℕ) (c : ℕ) → taken n t m c ≤ 4177920
+pub few_taken : (n : SystemNet) → Sound n → (t : ℕ) (m : List ℕ) (c : ℕ) → taken n t m c ≤ largest_side
 few_taken n sound t m c = few n sound m t c direction.In
 
-pub few_given : (n : SystemNet) → Sound n → (t : ℕ) (m : List ℕ) (c : ℕ) → given n t m c ≤ 4177920
+pub few_given : (n : SystemNet) → Sound n → (t : ℕ) (m : List ℕ) (c : ℕ) → given n t m c ≤ largest_side
 few_given n sound t m c = few n sound m t c direction.Out
 
 -- the modes of all transitions

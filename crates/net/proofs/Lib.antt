@@ -5,6 +5,7 @@ pub mod Cells
 pub mod Checked
 pub mod Coded
 pub mod Codings
+pub mod Every
 pub mod Loaded
 pub mod Moves
 pub mod Newest
