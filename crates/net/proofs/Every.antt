@@ -5,7 +5,7 @@ use Rattle.std.proofs.Math.Bridge.{le_prop}
 use Rattle.format.specs.Format.{mode_count}
 use Rattle.format.specs.declared.command.Direction.{Direction}
 use Rattle.net.specs.declared.net.Net.{Net}
-use Rattle.net.specs.Nets.{Counted, Tallied, arcs_of, largest_side, side}
+use Rattle.net.specs.Nets.{ExactlyTallied, Tallied, arcs_of, largest_side, side}
 use Rattle.net.specs.Of.{system}
 use Rattle.net.proofs.Bounds.{few, few_modes}
 
@@ -15,7 +15,7 @@ module _ (n : Net) where
   few_tokens m t c d = ∥∥₁_elim n.sound le_prop (λ s. few (system n) s m t c d)
 
   -- so they are counted exactly
-  pub counted : (m : List ℕ) (t : ℕ) (d : Direction) (xs ys : List ℕ) → Tallied xs ys (side (system n) m (arcs_of (system n) t d)) → Counted xs ys (side (system n) m (arcs_of (system n) t d))
+  pub counted : (m : List ℕ) (t : ℕ) (d : Direction) (xs ys : List ℕ) → Tallied xs ys (side (system n) m (arcs_of (system n) t d)) → ExactlyTallied xs ys (side (system n) m (arcs_of (system n) t d))
   counted m t d xs ys h c l room = let e = h c l in let f = few_tokens m t c d in omega (arith, e)
 
   -- all transitions have few modes

@@ -80,8 +80,8 @@ abbrev pub largest_side : ℕ
 largest_side = 4177920
 
 -- a marking is added to counts, exactly, where there is room for the largest side
-abbrev pub Counted : List ℕ → List ℕ → Marking → Type 0
-Counted before after m = (c : ℕ) → c < length before → slice_index before c + largest_side < 2 ^ 32 → slice_index after c ≡ slice_index before c + m c
+abbrev pub ExactlyTallied : List ℕ → List ℕ → Marking → Type 0
+ExactlyTallied before after m = (c : ℕ) → c < length before → slice_index before c + largest_side < 2 ^ 32 → slice_index after c ≡ slice_index before c + m c
 
 -- the cell stands for a place of the net and an element of that place's sort
 pub record HasCell (n : SystemNet) (cell : ℕ) : Type 0 where
