@@ -15,7 +15,7 @@ use Rattle.net.specs.System.{SystemNet, Transition, no_transition}
 use Rattle.net.specs.Written.{bag_bytes, term_bytes}
 
 -- what holds of the head and of the rest
-rest_all : {X : Type 0} (P : X → Type 0) (x : X) (xs : List X) → All P (x ∷ xs) → All P xs
+pub rest_all : {X : Type 0} (P : X → Type 0) (x : X) (xs : List X) → All P (x ∷ xs) → All P xs
 rest_all P x xs a k d h = a (suc k) d (omega arith)
 
 at_least_two : (s : Sig) (t : Term) → 2 ≤ length (term_bytes s t)

@@ -1,4 +1,5 @@
 pub mod Arcs
+pub mod Below
 pub mod Bounds
 pub mod Built
 pub mod Cells
@@ -10,6 +11,7 @@ pub mod Loaded
 pub mod Moves
 pub mod Newest
 pub mod Operands
+pub mod Outside
 pub mod Renewed
 pub mod Sides
 pub mod Signatures
