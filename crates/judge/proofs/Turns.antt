@@ -1,9 +1,14 @@
 -- One mode more, and one transition more.
-use Rattle.std.proofs.Common.{◌≡◌, ℕ, ◌+◌, ◌-◌, ◌^◌, min, Bool, true, false, cond, List, ℤ, sym, refl, ap, ◌∙◌, true≢false, add-one, arith, below_more}
+use Rattle.std.proofs.Common.{◌≡◌, ℕ, zero, suc, ◌+◌, ◌-◌, ◌*◌, ◌^◌, ◌≤◌, min, Bool, true, false, cond, List, ℤ, sym, refl, ap, ◌∙◌, true≢false, add-one, arith, below_more}
+use Rattle.std.proofs.lemmas.Bool.{cond_both}
 use Rattle.domain.specs.Meaning.{Meaning}
 use Rattle.net.specs.System.{SystemNet}
 use Rattle.net.specs.Nets.{guard_holds}
-use Rattle.judge.specs.Judged.{Kept, KeptAll, after, before, firing, held, mode, modes_of, number}
+use Rattle.judge.specs.Judged.{Kept, KeptAll, after, before, firing, mode, modes_of, number}
+
+-- a number that is held at the largest of 32 bits
+abbrev pub held : ℕ → ℕ
+held k = min k (2 ^ 32 - 1)
 
 pub firing_none : (n : SystemNet) (t : ℕ) → 0 ≡ held (firing n t 0)
 unfolding firing
@@ -20,6 +25,28 @@ number_none n = refl
 number_more : (n : SystemNet) (k : ℕ) → number n k + firing n k (modes_of n k) ≡ number n (k + 1)
 unfolding number
 number_more n k = rw add-one refl
+
+-- modes with a true guard are no more than modes
+firing_few : (n : SystemNet) (t i : ℕ) → firing n t i ≤ i
+unfolding firing
+firing_few n t zero = omega arith
+firing_few n t (suc i) =
+    let x = firing_few n t i in
+    let y : cond (guard_holds n t (mode n t i)) 1 0 ≤ 1 = cond_both (guard_holds n t (mode n t i)) 1 0 (λ k. k ≤ 1) (λ _. omega arith) (λ _. omega arith) in
+    omega arith
+
+-- in a transition of few modes none is lost
+pub all_modes : (n : SystemNet) (t c : ℕ) → modes_of n t ≤ 65536 → c ≡ held (firing n t (modes_of n t)) → c ≡ firing n t (modes_of n t)
+all_modes n t c h e = let f = firing_few n t (modes_of n t) in omega arith
+
+number_few : (n : SystemNet) → ((t : ℕ) → modes_of n t ≤ 65536) → (k : ℕ) → number n k ≤ 65536 * k
+unfolding number
+number_few n h zero = omega arith
+number_few n h (suc k) = let x = number_few n h k in let y = firing_few n k (modes_of n k) in let z = h k in omega arith
+
+-- nor in a net of few transitions
+pub all_transitions : (n : SystemNet) (c k : ℕ) → ((t : ℕ) → modes_of n t ≤ 65536) → k ≤ 32 → c ≡ held (number n k) → c ≡ number n k
+all_transitions n c k h few e = let f = number_few n h k in omega arith
 
 -- holding a sum is holding the sum of what is held
 hold : (x a b c s : ℕ) → x ≡ held a → c ≡ held b → a + b ≡ s → min (x + c) (2 ^ 32 - 1) ≡ held s
@@ -50,6 +77,8 @@ module _ {V : Type 0} (d : Meaning V) (codes : List ℤ) (n : SystemNet) where
   abbrev pub Over : ℕ → ℕ → Type 0
   Over k c = (c ≡ held (number n k)) × KeptAll d codes n k
 
-  pub over_more : (k c b x : ℕ) → x ≡ min (c + b) (2 ^ 32 - 1) → Over k c → Turned k (modes_of n k) b → Over (k + 1) x
+  pub over_more : (k c b x : ℕ) → x ≡ min (c + b) (2 ^ 32 - 1) → Over k c → (b ≡ firing n k (modes_of n k)) × Kept d codes n k (modes_of n k) → Over (k + 1) x
   over_more k c b x ex (e, a) (f, h) =
-      (ex ∙ hold c (number n k) (firing n k (modes_of n k)) b (number n (k + 1)) e f (number_more n k), below_more _ k a h)
+      let g = number_more n k in
+      let z : x ≡ held (number n (k + 1)) = grind (arith, ex, e, f, g) in
+      (z, below_more _ k a h)

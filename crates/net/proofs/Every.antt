@@ -44,3 +44,6 @@ module _ (n : Net) where
   -- the codes of a claim are weights of its kind
   pub weights : (claim c : ℕ) (k : Kind) → IsKind (system n) claim k → c < length (codes_of (system n) claim) → kind_weighs k (get_or (codes_of (system n) claim) c (pos 0)) ≡ true
   weights claim c k is there = ∥∥₁_elim n.sound (Bool-set _ _) (λ s. ap (λ j. kind_weighs j (get_or (codes_of (system n) claim) c (pos 0))) is.is ∙ (s.claims claim no_claim is.there).weights c (pos 0) there)
+
+  pub few_transitions : length (system n).transitions ≤ 32
+  few_transitions = ∥∥₁_elim n.sound le_prop (λ s. s.few_transitions)

@@ -1,6 +1,7 @@
 use Rattle.std.proofs.Common.{◌≡◌, ℕ, length, subst, arith, below_none}
 use Rattle.judge.specs.Calls.{net_of}
-use Rattle.judge.proofs.Turns.{Over, number_none, over_more}
+use Rattle.net.proofs.Every.{few_transitions, modes_in_one}
+use Rattle.judge.proofs.Turns.{Over, all_transitions, number_none, over_more}
 use Rattle.judge.proofs.judging.Judge.judge_all.Goals as goal
 
 pub loop-t-init : goal.loop-t-init
@@ -14,4 +15,6 @@ returns g c =
     let d = g.D.WeightDomain.meaning c.args.d.now in
     let n = net_of c.args.self.now in
     let all : c.loop-t.t ≡ length n.transitions = omega (arith, c.transitions-t-end.ensures) in
-    subst (λ (k : ℕ). Over d c.args.self.now.codes.now n k c.loop-t.seen) all c.loop-t.invariant
+    let over = subst (λ (k : ℕ). Over d c.args.self.now.codes.now n k c.loop-t.seen) all c.loop-t.invariant in
+    let net = c.args.self.now.net.now in
+    (all_transitions n c.loop-t.seen (length n.transitions) (modes_in_one net) (few_transitions net) over.0, over.1)
