@@ -82,6 +82,7 @@ pub record SoundClaim (k : Claim) : Type 0 where
 abbrev pub bytes_of : Transition → ℕ
 bytes_of t = option_map_or length t.guard 0 + (spans t.takes + spans t.puts)
 
+-- a net within all limits of a net file, whose terms are of the right sorts
 pub record Sound (n : SystemNet) : Type 0 where
   -- at most 8 sorts; sort 0 has two elements, and every sort 1 to 64
   pub sorts : length n.sig.sizes ≤ 8

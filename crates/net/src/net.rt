@@ -8,7 +8,8 @@ pub mod ask;
 // How many cells there are: 16 places of at most 64 elements.
 pub const CELLS: usize = 1024;
 
-// A net with its initial marking and its claims. `Net::new` and `read` alone write its parts.
+// A net with its initial marking and its claims. `Net::new` and `read` alone write its parts: so every net is sound, its
+// terms of their sorts and its numbers in their ranges.
 #[derive(Drop)]
 pub struct Net {
     pub(crate) parts: Parts,
