@@ -7,27 +7,27 @@ use Rattle.net.specs.Reading.{Told, commands, told}
 use Rattle.judge.specs.Judged.{firing, number}
 use Rattle.worked.specs.Rows.{Answer, Answers, Holds, Question, Row, cap, fault_shown, fire, judge, net_shown, read}
 use Rattle.worked.specs.Table.{Every, WorkedExamples, table}
-use Rattle.worked.proofs.Caps.{capping, capping-sound}
-use Rattle.worked.proofs.Firings.{replying, replying-sound}
-use Rattle.worked.proofs.Verdicts.{Sound, judging, judging-sound}
+use Rattle.worked.proofs.Caps.{capping, capping_sound}
+use Rattle.worked.proofs.Firings.{replying, replying_sound}
+use Rattle.worked.proofs.Verdicts.{Sound, judging, judging_sound}
 
 -- the answer to a question on what a file tells
-abbrev answer-to : Told → Question → Option Answer
-answer-to (Err e) q = Some (fault_shown e)
-answer-to (Ok n) read = Some (net_shown n)
-answer-to (Ok n) (judge claim) = judging n claim
-answer-to (Ok n) (cap claim cell) = capping n claim cell
-answer-to (Ok n) (fire fs f) = replying n fs f
+abbrev answer_to : Told → Question → Option Answer
+answer_to (Err e) q = Some (fault_shown e)
+answer_to (Ok n) read = Some (net_shown n)
+answer_to (Ok n) (judge claim) = judging n claim
+answer_to (Ok n) (cap claim cell) = capping n claim cell
+answer_to (Ok n) (fire fs f) = replying n fs f
 
-sound : (t : Told) (q : Question) → Sound (Answers t q) (answer-to t q)
+sound : (t : Told) (q : Question) → Sound (Answers t q) (answer_to t q)
 sound (Err e) q = refl
 sound (Ok n) read = refl
-sound (Ok n) (judge claim) = judging-sound n claim
-sound (Ok n) (cap claim cell) = capping-sound n claim cell
-sound (Ok n) (fire fs f) = replying-sound n fs f
+sound (Ok n) (judge claim) = judging_sound n claim
+sound (Ok n) (cap claim cell) = capping_sound n claim cell
+sound (Ok n) (fire fs f) = replying_sound n fs f
 
 abbrev answered : Row → Option Answer
-answered r = answer-to (told r.file) r.asked
+answered r = answer_to (told r.file) r.asked
 
 abbrev expected : Row → Option Answer
 expected r = Some r.answer
@@ -49,6 +49,6 @@ every_holds (r ∷ rs) e =
     (holds r here, every_holds rs rest)
 
 -- every worked example holds
-pub worked-examples : WorkedExamples
+pub worked_examples : WorkedExamples
 unfolding WorkedExamples
-worked-examples = every_holds table computed
+worked_examples = every_holds table computed

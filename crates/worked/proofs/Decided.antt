@@ -39,13 +39,13 @@ plain_of (kind.Modulo x) v = ⊥
 plain_of kind.Trap v = ⊥
 plain_of kind.Siphon v = Unit {0}
 
-pub laws-of : (x : Kind) → Laws (domain_of x)
-laws-of kind.Equal = equal_laws
-laws-of kind.NeverRises = never_rises_laws
-laws-of kind.NeverFalls = turned_laws never_rises_laws
-laws-of (kind.Modulo x) = residue_laws x.k x.ok.0
-laws-of kind.Trap = turned_laws truth_laws
-laws-of kind.Siphon = truth_laws
+pub laws_of : (x : Kind) → Laws (domain_of x)
+laws_of kind.Equal = equal_laws
+laws_of kind.NeverRises = never_rises_laws
+laws_of kind.NeverFalls = turned_laws never_rises_laws
+laws_of (kind.Modulo x) = residue_laws x.k x.ok.0
+laws_of kind.Trap = turned_laws truth_laws
+laws_of kind.Siphon = truth_laws
 
 abbrev implies : Bool → Bool → Bool
 implies true w = w
@@ -77,13 +77,13 @@ kept true true = λ e. e
 kept true false = λ f. true≢false (sym (f refl))
 kept false w = λ e. absurd (true≢false (sym e))
 
-pub related-tells : (x : Kind) (v w : Values x) → Tells (related x v w) ((domain_of x).rel v w)
-related-tells kind.Equal v w = same v w (le_z v w && le_z w v) refl
-related-tells kind.NeverRises v w = up_to w v (le_z w v) refl
-related-tells kind.NeverFalls v w = up_to v w (le_z v w) refl
-related-tells (kind.Modulo x) v w = congruent v w (eqb v w) refl
-related-tells kind.Trap v w = kept v w
-related-tells kind.Siphon v w = kept w v
+pub related_tells : (x : Kind) (v w : Values x) → Tells (related x v w) ((domain_of x).rel v w)
+related_tells kind.Equal v w = same v w (le_z v w && le_z w v) refl
+related_tells kind.NeverRises v w = up_to w v (le_z w v) refl
+related_tells kind.NeverFalls v w = up_to v w (le_z v w) refl
+related_tells (kind.Modulo x) v w = congruent v w (eqb v w) refl
+related_tells kind.Trap v w = kept v w
+related_tells kind.Siphon v w = kept w v
 
 -- whether a value is plain
 abbrev pub plain : (x : Kind) → Values x → Bool
@@ -94,13 +94,13 @@ plain (kind.Modulo x) v = false
 plain kind.Trap v = false
 plain kind.Siphon v = true
 
-pub plain-is : (x : Kind) (v : Values x) → plain x v ≡ true → plain_of x v
-plain-is kind.Equal v e = up_to (pos 0) v true e
-plain-is kind.NeverRises v e = up_to (pos 0) v true e
-plain-is kind.NeverFalls v e = true≢false (sym e)
-plain-is (kind.Modulo x) v e = true≢false (sym e)
-plain-is kind.Trap v e = true≢false (sym e)
-plain-is kind.Siphon v e = tt
+pub plain_is : (x : Kind) (v : Values x) → plain x v ≡ true → plain_of x v
+plain_is kind.Equal v e = up_to (pos 0) v true e
+plain_is kind.NeverRises v e = up_to (pos 0) v true e
+plain_is kind.NeverFalls v e = true≢false (sym e)
+plain_is (kind.Modulo x) v e = true≢false (sym e)
+plain_is kind.Trap v e = true≢false (sym e)
+plain_is kind.Siphon v e = tt
 
 -- the largest number of copies, in a domain that measures
 abbrev pub largest : (x : Kind) → Values x → Values x → Option ℕ
@@ -111,10 +111,10 @@ largest (kind.Modulo x) v w = None
 largest kind.Trap v w = None
 largest kind.Siphon v w = truth_largest v w
 
-pub largest-is : (x : Kind) (v w : Values x) → plain x v ≡ true → plain x w ≡ true → Largest (domain_of x) (plain_of x) v w (largest x v w)
-largest-is kind.Equal v w p q = largest_whole equal_relates v w (up_to (pos 0) v true p) (up_to (pos 0) w true q)
-largest-is kind.NeverRises v w p q = largest_whole never_rises_relates v w (up_to (pos 0) v true p) (up_to (pos 0) w true q)
-largest-is kind.NeverFalls v w p q = absurd (true≢false (sym p))
-largest-is (kind.Modulo x) v w p q = absurd (true≢false (sym p))
-largest-is kind.Trap v w p q = absurd (true≢false (sym p))
-largest-is kind.Siphon v w p q = largest_truth v w
+pub largest_is : (x : Kind) (v w : Values x) → plain x v ≡ true → plain x w ≡ true → Largest (domain_of x) (plain_of x) v w (largest x v w)
+largest_is kind.Equal v w p q = largest_whole equal_relates v w (up_to (pos 0) v true p) (up_to (pos 0) w true q)
+largest_is kind.NeverRises v w p q = largest_whole never_rises_relates v w (up_to (pos 0) v true p) (up_to (pos 0) w true q)
+largest_is kind.NeverFalls v w p q = absurd (true≢false (sym p))
+largest_is (kind.Modulo x) v w p q = absurd (true≢false (sym p))
+largest_is kind.Trap v w p q = absurd (true≢false (sym p))
+largest_is kind.Siphon v w p q = largest_truth v w

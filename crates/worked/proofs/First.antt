@@ -16,15 +16,15 @@ module _ (test : ℕ → Bool) where
   Failed k = (j : ℕ) → j < k → test j ≡ false
 
   -- what the first one is: the test holds there and at no number before; or at none
-  abbrev pub Is-first : ℕ → Option ℕ → Type 0
-  Is-first k None = Failed k
-  Is-first k (Some i) = (i < k) × (test i ≡ true) × Failed i
+  abbrev pub IsFirst : ℕ → Option ℕ → Type 0
+  IsFirst k None = Failed k
+  IsFirst k (Some i) = (i < k) × (test i ≡ true) × Failed i
 
-  pub first-is : (k : ℕ) → Is-first k (first k)
-  first-is zero = λ j h. let z : ⊥ = omega arith in elim z [ ]
-  first-is (suc k) = step (first k) (test k) refl (first-is k)
+  pub first_is : (k : ℕ) → IsFirst k (first k)
+  first_is zero = λ j h. let z : ⊥ = omega arith in elim z [ ]
+  first_is (suc k) = step (first k) (test k) refl (first_is k)
     where
-      step : (o : Option ℕ) (b : Bool) → test k ≡ b → Is-first k o → Is-first (suc k) (earlier o b k)
+      step : (o : Option ℕ) (b : Bool) → test k ≡ b → IsFirst k o → IsFirst (suc k) (earlier o b k)
       step (Some i) b e (h, holds, fails) = (omega arith, holds, fails)
       step None true e fails = (omega arith, e, fails)
       step None false e fails = subst Failed (add-one k) (below_more _ k fails e)

@@ -7,8 +7,8 @@ use Rattle.judge.specs.Judged.{First, Judged, Kept, KeptAll, Verdict, after, bef
 use Rattle.judge.specs.Kinds.{outcome_of}
 use Rattle.judge.specs.declared.verdict.Breach.{Breach}
 use Rattle.worked.specs.Rows.{broken, verdict_shown}
-use Rattle.worked.proofs.First.{Is-first, first, first-is, order}
-use Rattle.worked.proofs.Values.{worth, worth-is}
+use Rattle.worked.proofs.First.{IsFirst, first, first_is, order}
+use Rattle.worked.proofs.Values.{worth, worth_is}
 
 -- a number of modes, as a verdict says it
 abbrev settled : {V : Type 0} → Verdict V → Verdict V
@@ -40,12 +40,12 @@ module _ {V : Type 0} (d : Meaning V) (rel : V → V → Bool) (codes : List ℤ
   onward k (Ok c) = over k c (first (breaks k) (modes_of n k))
   onward k (Err x) = Err x
 
-  abbrev verdict-to : ℕ → Verdict V
-  verdict-to zero = Ok 0
-  verdict-to (suc k) = onward k (verdict-to k)
+  abbrev verdict_to : ℕ → Verdict V
+  verdict_to zero = Ok 0
+  verdict_to (suc k) = onward k (verdict_to k)
 
   abbrev pub verdict : Verdict V
-  verdict = settled (verdict-to (length n.transitions))
+  verdict = settled (verdict_to (length n.transitions))
 
 both : (a b : Bool) → (a && not b) ≡ true → (a ≡ true) × (b ≡ false)
 both true false e = (refl, refl)
@@ -61,51 +61,51 @@ module _ {V : Type 0} {d : Meaning V} (l : Laws d) (rel : V → V → Bool) (tel
   abbrev Related : ℕ → List ℕ → Type 0
   Related t m = d.rel (before d codes n t m) (after d codes n t m)
 
-  keeps-tells : (t : ℕ) (m : List ℕ) → Tells (keeps d rel codes n t m) (Related t m)
-  keeps-tells t m =
+  keeps_tells : (t : ℕ) (m : List ℕ) → Tells (keeps d rel codes n t m) (Related t m)
+  keeps_tells t m =
       let v = worth d codes (taken n t m) in
       let w = worth d codes (given n t m) in
-      subst (λ (x : V). Tells (rel v w) (d.rel x (after d codes n t m))) (worth-is l codes (taken n t m))
-      (subst (λ (y : V). Tells (rel v w) (d.rel v y)) (worth-is l codes (given n t m)) (tells v w))
+      subst (λ (x : V). Tells (rel v w) (d.rel x (after d codes n t m))) (worth_is l codes (taken n t m))
+      (subst (λ (y : V). Tells (rel v w) (d.rel v y)) (worth_is l codes (given n t m)) (tells v w))
 
   related : (t : ℕ) (m : List ℕ) → keeps d rel codes n t m ≡ true → Related t m
-  related t m e = subst (λ (b : Bool). Tells b (Related t m)) e (keeps-tells t m)
+  related t m e = subst (λ (b : Bool). Tells b (Related t m)) e (keeps_tells t m)
 
   apart : (t : ℕ) (m : List ℕ) → keeps d rel codes n t m ≡ false → Related t m → ⊥
-  apart t m e = subst (λ (b : Bool). Tells b (Related t m)) e (keeps-tells t m)
+  apart t m e = subst (λ (b : Bool). Tells b (Related t m)) e (keeps_tells t m)
 
   -- modes that do not break the claim
   kept : (t i : ℕ) → ((j : ℕ) → j < i → breaks d rel codes n t j ≡ false) → Kept d codes n t i
   kept t i fails j h g = related t (mode n t j) (neither (guard_holds n t (mode n t j)) (keeps d rel codes n t (mode n t j)) (fails j h) g)
 
   -- the answer for the first k transitions
-  abbrev Judged-to : ℕ → Verdict V → Type 0
-  Judged-to k (Ok c) = (c ≡ number n k) × KeptAll d codes n k
-  Judged-to k (Err x) = (x.firing.transition < k) × KeptAll d codes n x.firing.transition × First d codes n x.firing.transition x.firing.mode x.before x.after
+  abbrev JudgedTo : ℕ → Verdict V → Type 0
+  JudgedTo k (Ok c) = (c ≡ number n k) × KeptAll d codes n k
+  JudgedTo k (Err x) = (x.firing.transition < k) × KeptAll d codes n x.firing.transition × First d codes n x.firing.transition x.firing.mode x.before x.after
 
-  judged-to : (k : ℕ) → Judged-to k (verdict-to d rel codes n k)
+  judged_to : (k : ℕ) → JudgedTo k (verdict_to d rel codes n k)
   unfolding number
-  judged-to zero = (refl, λ t h. let z : ⊥ = omega arith in elim z [ ])
-  judged-to (suc k) = step (verdict-to d rel codes n k) (judged-to k)
+  judged_to zero = (refl, λ t h. let z : ⊥ = omega arith in elim z [ ])
+  judged_to (suc k) = step (verdict_to d rel codes n k) (judged_to k)
     where
-      ends : (c : ℕ) (o : Option ℕ) → (c ≡ number n k) × KeptAll d codes n k → Is-first (breaks d rel codes n k) (modes_of n k) o → Judged-to (suc k) (over d rel codes n k c o)
+      ends : (c : ℕ) (o : Option ℕ) → (c ≡ number n k) × KeptAll d codes n k → IsFirst (breaks d rel codes n k) (modes_of n k) o → JudgedTo (suc k) (over d rel codes n k c o)
       ends c None (is, all) fails =
           (ap (λ (x : ℕ). x + firing n k (modes_of n k)) is, subst (λ (x : ℕ). KeptAll d codes n x) (add-one k) (below_more _ k all (kept k (modes_of n k) fails)))
       ends c (Some i) (is, all) (h, holds, fails) =
           let s = both (guard_holds n k (mode n k i)) (keeps d rel codes n k (mode n k i)) holds in
           (omega arith, all, record { index = i; within = h; is = refl; fires = s.0; before_is = refl; after_is = refl; apart = apart k (mode n k i) s.1; earlier = kept k i fails })
 
-      step : (v : Verdict V) → Judged-to k v → Judged-to (suc k) (onward d rel codes n k v)
-      step (Ok c) j = ends c (first (breaks d rel codes n k) (modes_of n k)) j (first-is (breaks d rel codes n k) (modes_of n k))
+      step : (v : Verdict V) → JudgedTo k v → JudgedTo (suc k) (onward d rel codes n k v)
+      step (Ok c) j = ends c (first (breaks d rel codes n k) (modes_of n k)) j (first_is (breaks d rel codes n k) (modes_of n k))
       step (Err x) (h, all, f) = (omega arith, all, f)
 
-  shut : (r : Verdict V) → Judged-to (length n.transitions) r → Judged d codes n (settled r)
+  shut : (r : Verdict V) → JudgedTo (length n.transitions) r → Judged d codes n (settled r)
   shut (Ok c) j = (ap held j.0, j.1)
   shut (Err x) j = j
 
   -- the verdict computed is one that the relation has
   pub judged : Judged d codes n (verdict d rel codes n)
-  judged = shut (verdict-to d rel codes n (length n.transitions)) (judged-to (length n.transitions))
+  judged = shut (verdict_to d rel codes n (length n.transitions)) (judged_to (length n.transitions))
 
 module _ {V : Type 0} (d : Meaning V) (codes : List ℤ) (n : SystemNet) where
   -- a broken mode is not among those that are kept

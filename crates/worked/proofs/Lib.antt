@@ -3,6 +3,6 @@ pub mod Values
 pub mod Decided
 pub mod Judging
 pub mod Verdicts
-pub mod Firings
 pub mod Caps
+pub mod Firings
 pub mod Computed

@@ -26,20 +26,20 @@ module _ {V : Type 0} {d : Meaning V} (l : Laws d) where
   plus_nil : (v : V) → d.holds v → d.plus v d.nil ≡ v
   plus_nil v h = l.comm v d.nil h l.nil_holds ∙ l.neutral v h
 
-  copies-nil : (n : ℕ) → copies d n d.nil ≡ d.nil
-  copies-nil zero = refl
-  copies-nil (suc n) = ap (d.plus d.nil) (copies-nil n) ∙ l.neutral d.nil l.nil_holds
+  copies_nil : (n : ℕ) → copies d n d.nil ≡ d.nil
+  copies_nil zero = refl
+  copies_nil (suc n) = ap (d.plus d.nil) (copies_nil n) ∙ l.neutral d.nil l.nil_holds
 
-  nought-adds : (n : ℕ) (v : V) → d.holds v → v ≡ d.plus v (copies d n (d.weight (pos 0)))
-  nought-adds n v h = sym (ap (λ (w : V). d.plus v (copies d n w)) l.weight_zero ∙ ap (d.plus v) (copies-nil n) ∙ plus_nil v h)
+  nought_adds : (n : ℕ) (v : V) → d.holds v → v ≡ d.plus v (copies d n (d.weight (pos 0)))
+  nought_adds n v h = sym (ap (λ (w : V). d.plus v (copies d n w)) l.weight_zero ∙ ap (d.plus v) (copies_nil n) ∙ plus_nil v h)
 
-  weighed-is : (m : Marking) (v : V) (c : ℕ) (x : ℤ) → d.holds v → weighed d m v c x ≡ d.plus v (copies d (m c) (d.weight x))
-  weighed-is m v c (negsuc k) h = refl
-  weighed-is m v c (pos k) h = by (eqb k 0) refl
+  weighed_is : (m : Marking) (v : V) (c : ℕ) (x : ℤ) → d.holds v → weighed d m v c x ≡ d.plus v (copies d (m c) (d.weight x))
+  weighed_is m v c (negsuc k) h = refl
+  weighed_is m v c (pos k) h = by (eqb k 0) refl
     where
       by : (b : Bool) → eqb k 0 ≡ b → cond b v (d.plus v (copies d (m c) (d.weight (pos k)))) ≡ d.plus v (copies d (m c) (d.weight (pos k)))
       by false e = refl
-      by true e = subst (λ (j : ℕ). v ≡ d.plus v (copies d (m c) (d.weight (pos j)))) (sym (eqb-true k 0 e)) (nought-adds (m c) v h)
+      by true e = subst (λ (j : ℕ). v ≡ d.plus v (copies d (m c) (d.weight (pos j)))) (sym (eqb-true k 0 e)) (nought_adds (m c) v h)
 
   module _ (codes : List ℤ) (m : Marking) where
     walked : (xs : List ℤ) (c : ℕ) (v : V) → ((j : ℕ) → get_or xs j (pos 0) ≡ get_or codes (c + j) (pos 0)) → v ≡ value_to d codes m c → walk d m v c xs ≡ value_to d codes m (c + length xs)
@@ -54,7 +54,7 @@ module _ {V : Type 0} {d : Meaning V} (l : Laws d) where
         here = rest 0 ∙ ap (λ (k : ℕ). get_or codes k (pos 0)) (add-zero c)
 
         next : weighed d m v c x ≡ value_to d codes m (suc c)
-        next = weighed-is m v c x holds ∙ ap (λ (y : V). d.plus y (copies d (m c) (d.weight x))) is ∙ ap (λ (z : ℤ). d.plus (value_to d codes m c) (copies d (m c) (d.weight z))) here
+        next = weighed_is m v c x holds ∙ ap (λ (y : V). d.plus y (copies d (m c) (d.weight x))) is ∙ ap (λ (z : ℤ). d.plus (value_to d codes m c) (copies d (m c) (d.weight z))) here
 
-    pub worth-is : worth d codes m ≡ value_of d codes m
-    worth-is = walked codes 0 d.nil (λ j. ap (λ (k : ℕ). get_or codes k (pos 0)) (sym (zero-add j))) refl ∙ ap (value_to d codes m) (zero-add (length codes))
+    pub worth_is : worth d codes m ≡ value_of d codes m
+    worth_is = walked codes 0 d.nil (λ j. ap (λ (k : ℕ). get_or codes k (pos 0)) (sym (zero-add j))) refl ∙ ap (value_to d codes m) (zero-add (length codes))

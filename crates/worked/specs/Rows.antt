@@ -1,26 +1,21 @@
--- Rows of worked examples: a file, what is asked of it, and the answer; and what such a row claims, in the definitions
--- that the contracts of reading, judging, caps and firing use.
-use Rattle.std.specs.Prelude.{◌≡◌, ℕ, ◌<◌, ◌⊎◌, List, length, map, Option, Some, None, Ok, Err, Result, pos, ◌≤ℤ◌}
-use Rattle.domain.specs.Domains.{equal, modulo, never_rises, siphon, turned}
-use Rattle.domain.specs.Meaning.{Meaning}
+-- Rows of worked examples: a file, what is asked of it, and the answer; and what such a row claims, by the definitions
+-- that the contracts of reading, judging, caps and firing name.
+use Rattle.std.specs.Prelude.{◌≡◌, ℕ, ◌<◌, List, length, map, Option, Some, None, Ok, Err, Result}
 use Rattle.domain.specs.declared.kind.Kind.{Kind}
-use Rattle.domain.specs.declared.kind.Kind.TheVariants as kind
 use Rattle.term.specs.Faults.{number_of}
 use Rattle.term.specs.Worth.{Marking}
 use Rattle.term.specs.declared.fault.Fault.{Fault}
-use Rattle.term.specs.declared.fault.Fault.TheVariants as fault
 use Rattle.term.specs.declared.fault.FileFault.{FileFault}
 use Rattle.term.specs.declared.fault.Stage.{Stage}
-use Rattle.net.specs.Nets.{HasCell, IsKind, codes_of}
+use Rattle.net.specs.Nets.{IsKind}
 use Rattle.net.specs.Reading.{Told, arc_count, told}
-use Rattle.net.specs.Runs.{Fires, Run, initial}
+use Rattle.net.specs.Runs.{Run, initial}
 use Rattle.net.specs.System.{SystemNet}
 use Rattle.net.specs.declared.firing.Firing.{Firing}
 use Rattle.judge.specs.Calls.{Fits, Memory}
-use Rattle.judge.specs.Caps.{AllPlain, AskedByKind, CapIs}
-use Rattle.judge.specs.Judged.{Judged, Verdict}
-use Rattle.judge.specs.Kinds.{ByKind, Outcome, outcome_of}
-use Rattle.bench.specs.Calls.{FireCalled, FireRefused, Lent, marking}
+use Rattle.judge.specs.Caps.{AskedByKind}
+use Rattle.judge.specs.Kinds.{ByKind, Outcome}
+use Rattle.bench.specs.Calls.{FireCalled, Lent, marking}
 use Rattle.bench.specs.Path.{Alike}
 
 -- what is asked: whether the file reads; the verdict on a claim; the cap of a cell by a claim; or what a firing does,
@@ -73,48 +68,11 @@ abbrev pub fire_shown : Result (Unit {0}) Fault → Answer
 fire_shown (Ok u) = fired
 fire_shown (Err e) = refusal e
 
--- a verdict of a domain on a claim, shown as an answer
-abbrev pub HasVerdict : {V : Type 0} → Meaning V → SystemNet → ℕ → Answer → Type 0
-HasVerdict {V} d n claim a = (v : Verdict V) × (Judged d (codes_of n claim) n v × (a ≡ verdict_shown (Ok (outcome_of v))))
-
-abbrev pub HasVerdictByKind : Kind → SystemNet → ℕ → Answer → Type 0
-HasVerdictByKind kind.Equal n claim a = HasVerdict equal n claim a
-HasVerdictByKind kind.NeverRises n claim a = HasVerdict never_rises n claim a
-HasVerdictByKind kind.NeverFalls n claim a = HasVerdict (turned never_rises) n claim a
-HasVerdictByKind (kind.Modulo x) n claim a = HasVerdict (modulo x.k) n claim a
-HasVerdictByKind kind.Trap n claim a = HasVerdict (turned siphon) n claim a
-HasVerdictByKind kind.Siphon n claim a = HasVerdict siphon n claim a
-
--- the answer on a claim: a verdict by its kind has it, and so has every result that the contract of judging by kind allows
-pub record Judging (n : SystemNet) (claim : ℕ) (a : Answer) : Type 0 where
-  pub some : (x : Kind) × (IsKind n claim x × HasVerdictByKind x n claim a)
-  pub only : (x : Kind) (m k : Memory) (r : Result Outcome Fault) → IsKind n claim x → Fits m → ByKind x n claim m k r → a ≡ verdict_shown r
-
--- the cap of a cell by an accepted claim whose weights are all plain, shown as an answer
-pub record HasNumber {V : Type 0} (d : Meaning V) (plain : V → Type 0) (n : SystemNet) (claim cell : ℕ) (a : Answer) : Type 0 where
-  pub there : HasCell n cell
-  pub natural : AllPlain d plain (codes_of n claim)
-  pub modes : ℕ
-  pub holds : Judged d (codes_of n claim) n (Ok modes)
-  pub most : Option ℕ
-  pub is : CapIs d plain (codes_of n claim) n cell most
-  pub shown : a ≡ cap_shown (Ok most)
-
--- such a cap, or a fault where the net has no such cell
-abbrev pub HasCap : {V : Type 0} → Meaning V → (V → Type 0) → SystemNet → ℕ → ℕ → Answer → Type 0
-HasCap d plain n claim cell a = HasNumber d plain n claim cell a ⊎ ((HasCell n cell → ⊥) × (a ≡ refusal fault.NoCell))
-
-abbrev pub HasCapByKind : Kind → SystemNet → ℕ → ℕ → Answer → Type 0
-HasCapByKind kind.Equal n claim cell a = HasCap equal (λ v. pos 0 ≤ℤ v) n claim cell a
-HasCapByKind kind.NeverRises n claim cell a = HasCap never_rises (λ v. pos 0 ≤ℤ v) n claim cell a
-HasCapByKind kind.Siphon n claim cell a = HasCap siphon (λ v. Unit {0}) n claim cell a
-HasCapByKind x n claim cell a = ⊥
-
--- the cap of a cell: by the claim's kind there is one that has the answer, and so has every result that the contract of
--- caps by kind allows
-pub record Capping (n : SystemNet) (claim cell : ℕ) (a : Answer) : Type 0 where
-  pub some : (x : Kind) × (IsKind n claim x × HasCapByKind x n claim cell a)
-  pub only : (x : Kind) (m k : Memory) (r : Result (Option ℕ) Fault) → IsKind n claim x → Fits m → AskedByKind x n claim cell m k r → a ≡ cap_shown r
+-- the answer of a call on a claim, of whose kind the contract of the call says C: from any memory that fits, C allows a
+-- result that shows the answer, and no result that shows another
+pub record Shows {R : Type 0} (C : Kind → Memory → Memory → Result R Fault → Type 0) (shown : Result R Fault → Answer) (n : SystemNet) (claim : ℕ) (a : Answer) : Type 0 where
+  pub some : (m : Memory) → Fits m → (x : Kind) × (IsKind n claim x × ((k : Memory) × ((r : Result R Fault) × (C x m k r × (a ≡ shown r)))))
+  pub only : (x : Kind) (m k : Memory) (r : Result R Fault) → IsKind n claim x → Fits m → C x m k r → a ≡ shown r
 
 abbrev pub pair : Firing → ℕ × List ℕ
 pair f = (f.transition, f.mode)
@@ -128,24 +86,20 @@ pub record StandsAt (x : Marking) (l : Lent) : Type 0 where
   pub marked : Alike (marking l) x
   pub room : length l.trail < length l.memory
 
--- a firing from what the memory holds, or a reason to refuse it, shown as an answer
-abbrev pub Reply : SystemNet → Firing → Lent → Answer → Type 0
-Reply n f l a = ((b : Marking) × (Fires n f.transition f.mode (marking l) b × (a ≡ fired))) ⊎ ((e : Fault) × (FireRefused n f l e × (a ≡ refusal e)))
-
--- the answer of a firing: the firings before it lead somewhere, and wherever they lead, there is this reply, and every
--- result that the contract of fire allows has it
-pub record Replying (n : SystemNet) (fs : List Firing) (f : Firing) (a : Answer) : Type 0 where
+-- the answer of a firing: the firings before it lead somewhere, and wherever they lead, the contract of fire allows a
+-- result that shows the answer, and no result that shows another
+pub record Replies (n : SystemNet) (fs : List Firing) (f : Firing) (a : Answer) : Type 0 where
   pub leads : (x : Marking) × Leads n fs x
-  pub some : (x : Marking) (l : Lent) → Leads n fs x → StandsAt x l → Reply n f l a
+  pub some : (x : Marking) (l : Lent) → Leads n fs x → StandsAt x l → (k : Lent) × ((r : Result (Unit {0}) Fault) × (FireCalled n f l k r × (a ≡ fire_shown r)))
   pub only : (x : Marking) (l k : Lent) (r : Result (Unit {0}) Fault) → Leads n fs x → StandsAt x l → FireCalled n f l k r → a ≡ fire_shown r
 
 -- the answer to a question on what a file tells; of a file with a fault the fault is the answer to every question
 abbrev pub Answers : Told → Question → Answer → Type 0
 Answers (Err e) q a = a ≡ fault_shown e
 Answers (Ok n) read a = a ≡ net_shown n
-Answers (Ok n) (judge claim) a = Judging n claim a
-Answers (Ok n) (cap claim cell) a = Capping n claim cell a
-Answers (Ok n) (fire fs f) a = Replying n fs f a
+Answers (Ok n) (judge claim) a = Shows (λ x m k r. ByKind x n claim m k r) verdict_shown n claim a
+Answers (Ok n) (cap claim cell) a = Shows (λ x m k r. AskedByKind x n claim cell m k r) cap_shown n claim a
+Answers (Ok n) (fire fs f) a = Replies n fs f a
 
 -- a row holds
 unfoldable pub Holds : Row → Type 0

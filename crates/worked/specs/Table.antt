@@ -13,9 +13,12 @@ row f q a = record { file = f; asked = q; answer = a }
 abbrev pub handset : ℕ → List ℕ
 handset h = h ∷ 0 ∷ 0 ∷ 0 ∷ []
 
--- transition 0: a handset takes the channel
+-- transition 0: a handset takes the channel; transition 1: it gives it back
 abbrev pub takes : ℕ → Firing
 takes h = record { transition = 0; mode = handset h }
+
+abbrev pub gives : ℕ → Firing
+gives h = record { transition = 1; mode = handset h }
 
 -- files, what is asked of them, and the answers
 abbrev pub table : List Row
@@ -49,13 +52,18 @@ table =
     ∷ row (lossy_of_kind 4 2) (judge 0) (broken 1 (handset 0))
     ∷ row (lossy_of_kind 5 0) (judge 0) (broken 1 (handset 0))
     ∷ row (lossy_of_kind 6 0) (judge 0) (accepted 4)
-    -- caps: of a sending handset, of a quiet one, and of no cell
+    -- caps: of a sending handset, of a quiet one, and of no cell; and by other kinds
     ∷ row small (cap 0 64) (at_most 1)
     ∷ row small (cap 0 0) unbounded
     ∷ row small (cap 0 2) (refused 13 fault.NoCell)
-    -- handset 0 takes the channel; then handset 1 finds it taken
+    ∷ row lossy (cap 0 64) (refused 16 fault.NotAccepted)
+    ∷ row (lossy_of_kind 2 0) (cap 0 64) (at_most 1)
+    ∷ row (lossy_of_kind 3 0) (cap 0 64) (refused 15 fault.NotPlain)
+    ∷ row (lossy_of_kind 6 0) (cap 0 64) unbounded
+    -- handset 0 takes the channel; then handset 1 finds it taken, until it is given back
     ∷ row small (fire [] (takes 0)) fired
     ∷ row small (fire (takes 0 ∷ []) (takes 1)) (refused 20 (fault.Lacks 128))
+    ∷ row small (fire (takes 0 ∷ gives 0 ∷ []) (takes 1)) fired
     ∷ []
 
 -- P holds of every row

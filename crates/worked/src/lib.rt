@@ -21,5 +21,5 @@ pub fn worked_examples() -> usize
     ensures number { result ≡ length table }
     ensures hold { WorkedExamples }
 {
-    32
+    37
 }
