@@ -1,7 +1,9 @@
-use Rattle.std.proofs.Common.{◌≡◌, rules}
+use Rattle.std.proofs.Common.{ℕ, List, rules, subst}
+use Rattle.trace.specs.Replaying.{Played, lends}
 use Rattle.trace.proofs.replays.replay.Goals as goal
 
 pub returns : goal.returns
-returns c =
-    let e : c.replay_on.new.counts.cells.now ≡ c.cells-1.given.0 = search rules in
-    (search rules, rw (e) at c.replay_on.ensures.played)
+returns c = (
+  search rules,
+  subst (λ (cells : List ℕ). Played c.args.net.now c.args.bytes.now (lends c.args.cells.now c.args.trail.now) (lends cells c.replay_on.new.trail) c.replay_on.result) (search rules) c.replay_on.ensures.played,
+)
