@@ -4,3 +4,5 @@ pub mod Nets
 pub mod Runs
 pub mod Reading
 pub mod Of
+pub mod Written
+pub mod Sound

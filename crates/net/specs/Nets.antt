@@ -75,6 +75,14 @@ pub record Mode (ns m : List ℕ) : Type 0 where
 abbrev pub Tallied : List ℕ → List ℕ → Marking → Type 0
 Tallied before after m = (c : ℕ) → c < length before → slice_index after c ≡ min (slice_index before c + m c) (2 ^ 32 - 1)
 
+-- at most how many tokens the arcs of a transition that go one way have in a cell: 255 for each 4 of 65,536 bytes
+abbrev pub largest_side : ℕ
+largest_side = 4177920
+
+-- a marking is added to counts, exactly, where there is room for the largest side
+abbrev pub ExactlyTallied : List ℕ → List ℕ → Marking → Type 0
+ExactlyTallied before after m = (c : ℕ) → c < length before → slice_index before c + largest_side < 2 ^ 32 → slice_index after c ≡ slice_index before c + m c
+
 -- the cell stands for a place of the net and an element of that place's sort
 pub record HasCell (n : SystemNet) (cell : ℕ) : Type 0 where
   pub within : cell < 1024

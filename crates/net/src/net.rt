@@ -1,3 +1,6 @@
+ghost use Rattle.net.specs.Sound.{Sound};
+ghost use Rattle.net.specs.System.{told_by};
+
 use crate::parts::Parts;
 
 pub mod ask;
@@ -9,4 +12,5 @@ pub const CELLS: usize = 1024;
 #[derive(Drop)]
 pub struct Net {
     pub(crate) parts: Parts,
+    ghost sound: { ∥ Sound (told_by parts) ∥₁ },
 }

@@ -4,7 +4,7 @@ ghost use Rattle.term.specs.Meaning.{of};
 ghost use Rattle.term.specs.Worth.{Weighs, value_of};
 ghost use Rattle.domain.specs.Meaning.{Tells};
 ghost use Rattle.format.specs.Format.{mode_count};
-ghost use Rattle.net.specs.Nets.{HasCell, IsKind, Mode, Tallied, arcs_of, codes_of, digit, given, guard_holds, load, mode_of, side, taken, transition};
+ghost use Rattle.net.specs.Nets.{ExactlyTallied, HasCell, IsKind, Mode, Tallied, arcs_of, codes_of, digit, given, guard_holds, load, mode_of, side, taken, transition};
 ghost use Rattle.net.specs.Of.{system};
 ghost use Rattle.net.specs.Spans.{arc_told};
 
@@ -155,7 +155,8 @@ impl Net {
     // Adds what a transition takes or puts in a mode to the counts. This loop and that of `weigh` stay two: one would
     // need term's walk with its laws out here, for two loops of one call each.
     pub fn count(&self, f: Firing, direction: Direction, counts: &mut [u32])
-        ensures { Tallied counts.old counts.new (side (system self.now) f.mode (arcs_of (system self.now) f.transition direction)) }
+        ensures held { Tallied counts.old counts.new (side (system self.now) f.mode (arcs_of (system self.now) f.transition direction)) }
+        ensures exact { ExactlyTallied counts.old counts.new (side (system self.now) f.mode (arcs_of (system self.now) f.transition direction)) }
     {
         let evaluator = self.evaluator(&f.mode);
         for arc in self.arcs_of(f.transition, direction) {

@@ -14,7 +14,7 @@ returns-in-Err-clause-left g c =
     let m = c.in-Err.breach.firing.mode in
     let b = cleared c.args.self.now.before.now c.fill.new.self (c.fill.ensures.after (λ y h. h)) c.requires.before_long in
     let a = cleared c.args.self.now.after.now c.fill-2.new.self (c.fill-2.ensures.after (λ y h. h)) c.requires.after_long in
-    rw c.in-Err.is (subst (λ (xs : List ℕ). Tallied xs c.count.new.counts (taken n t m)) b c.count.ensures, subst (λ (xs : List ℕ). Tallied xs c.count-in-Err.new.counts (given n t m)) a c.count-in-Err.ensures)
+    rw c.in-Err.is (subst (λ (xs : List ℕ). Tallied xs c.count.new.counts (taken n t m)) b c.count.ensures.held, subst (λ (xs : List ℕ). Tallied xs c.count-in-Err.new.counts (given n t m)) a c.count-in-Err.ensures.held)
 
 pub returns-in_default-clause-left : goal.returns-in_default-clause-left
 returns-in_default-clause-left g c =
