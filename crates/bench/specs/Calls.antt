@@ -121,6 +121,19 @@ BackCalled n l k (Ok u) = (f : Firing) × WentBack n f l k
 BackCalled n l k (Err fault.TrailEmpty) = (l.trail ≡ []) × (k ≡ l)
 BackCalled n l k (Err e) = ⊥
 
+-- the newest firing f is taken off the trail, from the memory l to k, whose trail need not lead to the marking: if f did,
+-- the marking is the one from before it
+pub record Undone (n : SystemNet) (f : Firing) (l k : Lent) : Type 0 where
+  pub trail : l.trail ≡ k.trail ++ f ∷ []
+  pub memory : k.memory ≡ l.memory
+  pub returns : Returns n f (marking l) (marking k)
+
+-- what a call answers that undoes the newest firing on any trail; a refused one changes nothing
+abbrev pub UndoCalled : SystemNet → Lent → Lent → Result (Unit {0}) Fault → Type 0
+UndoCalled n l k (Ok u) = (f : Firing) × Undone n f l k
+UndoCalled n l k (Err fault.TrailEmpty) = (l.trail ≡ []) × (k ≡ l)
+UndoCalled n l k (Err e) = ⊥
+
 -- what a call of count answers: what the marking has in a cell of the net
 abbrev pub CountCalled : SystemNet → Marking → ℕ → Result ℕ Fault → Type 0
 CountCalled n a c (Ok k) = HasCell n c × (k ≡ a c)

@@ -2,7 +2,7 @@
 // parts, as a replay is, makes them on those and knows what their lender finds there afterwards.
 ghost use Rattle.std.specs.Prelude.{◌≡◌, [], ◌∷◌, ◌++◌, length, Ok, Err, slice_set};
 ghost use Rattle.lent.specs.Held as list;
-ghost use Rattle.bench.specs.Calls.{BackCalled, Begun, Checked, FireCalled, Opened, Returns, Stands, lent};
+ghost use Rattle.bench.specs.Calls.{BackCalled, Begun, Checked, FireCalled, Opened, Returns, Stands, UndoCalled, lent};
 ghost use Rattle.bench.specs.Counted.{loan, tokens};
 ghost use Rattle.bench.specs.Path.{NeverFull};
 ghost use Rattle.net.specs.Of.{system};
@@ -88,8 +88,10 @@ fn undo(net: &Net, counts: &mut Counts, firing: Firing)
     counts.shift(&Change::undoing(net, firing));
 }
 
-// Undoes the newest firing. Only where the firings on the trail led to the counts is there a marking from before it.
+// Undoes the newest firing. Where a path of the firings on the trail leads to the counts, this gives the marking from
+// before the newest, and a path leads to it.
 pub fn back_on(net: &Net, counts: &mut Counts, trail: &mut LentList<Firing>) -> Result<(), Fault>
+    ensures undone { UndoCalled (system net.now) (lent counts.old trail.old) (lent counts.new trail.new) result }
     ensures called { Stands (system net.now) (lent counts.old trail.old) → BackCalled (system net.now) (lent counts.old trail.old) (lent counts.new trail.new) result }
     ensures stands { Stands (system net.now) (lent counts.old trail.old) → Stands (system net.now) (lent counts.new trail.new) }
     ensures counts_loan { loan counts.new ≡ loan counts.old }

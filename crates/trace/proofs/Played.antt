@@ -77,17 +77,24 @@ ran_long n bs l k s h e f p = record {
   plays = record { moves = []; left = []; whole = refl; done = refl; carried = e; stops = (f, p) };
 }
 
+-- the answer of a replay from its count and its end
+answered : (k : ℕ) (e : Result (Unit {0}) Stop) (o : Option Stop) → o ≡ result_err e → replayed k e ≡ record { carried = k; stop = o }
+answered k (Ok u) o h = ap (λ (x : Option Stop). record { carried = k; stop = x }) (sym h)
+answered k (Err s) o h = ap (λ (x : Option Stop). record { carried = k; stop = x }) (sym h)
+
 -- the whole of a replay
-pub played : (n : SystemNet) (bs : List ℕ) (l x k : Lent) (r : Replayed) → Begun n l x → Ran n bs x k r → Stands n k → Played n bs l k r
-played n bs l x k r h p s = record { start = x; begun = h; ran = p; stands = s; reachable = run; bounded = λ c b u. u (marking k) run }
+pub played : (n : SystemNet) (bs : List ℕ) (l x k : Lent) (count : ℕ) (e : Result (Unit {0}) Stop) (o : Option Stop) → Begun n l x → Ran n bs x k (replayed count e) → Stands n k → o ≡ result_err e → Played n bs l k (record { carried = count; stop = o })
+played n bs l x k count e o h p s i = record {
+  start = x;
+  begun = h;
+  ran = subst (λ (y : Replayed). Ran n bs x k y) (answered count e o i) p;
+  stands = s;
+  reachable = run;
+  bounded = λ c b u. u (marking k) run;
+}
   where
     run : Reachable n (marking k)
     run = reachable n k.trail (marking k) s
-
--- the answer of a replay from its count and its end
-pub answered : (k : ℕ) (r : Result (Unit {0}) Stop) (o : Option Stop) → o ≡ result_err r → replayed k r ≡ record { carried = k; stop = o }
-answered k (Ok u) o e = ap (λ (x : Option Stop). record { carried = k; stop = x }) (sym e)
-answered k (Err s) o e = ap (λ (x : Option Stop). record { carried = k; stop = x }) (sym e)
 
 -- what a trace says is what was replayed
 replays : (n : SystemNet) (bs : List ℕ) (ms : List Move) (c : Close) (l k : Lent) (r : Replayed) → Ran n bs l k r → SaysOnly bs ms c → Plays n ms c l k r

@@ -4,7 +4,7 @@ ghost use Rattle.bench.specs.Counted.{loan};
 ghost use Rattle.lent.specs.Held as list;
 ghost use Rattle.trace.specs.Carrying.{CarryCalled};
 ghost use Rattle.trace.specs.Moves.{move_of};
-ghost use Rattle.trace.specs.Replaying.{Ran, RecordingCalled, ReplayCalled, replayed};
+ghost use Rattle.trace.specs.Replaying.{Played, Ran, RecordingCalled, ReplayCalled, replayed};
 ghost use Rattle.trace.specs.Stops.{cell_of};
 ghost use Rattle.net.specs.Of.{system};
 
@@ -111,6 +111,21 @@ fn carry_all(
     Ok(())
 }
 
+// Replays a trace on a new bench, whose counts and trail are lent.
+fn replay_on(net: &Net, counts: &mut Counts, trail: &mut LentList<Firing>, bytes: &[u8]) -> Replayed
+    ensures played { Played (system net.now) bytes.now (lent counts.old trail.old) (lent counts.new trail.new) result }
+    ensures counts_loan { loan counts.new ≡ loan counts.old }
+    ensures trail_loan { list.loan trail.new ≡ list.loan trail.old }
+{
+    begin_on(net, counts, trail);
+    let mut carried = 0;
+    let end = carry_all(net, counts, trail, bytes, &mut carried);
+    Replayed {
+        carried,
+        stop: end.err(),
+    }
+}
+
 // Replays a trace on a new bench in lent memory.
 pub fn replay(
     net: &Net,
@@ -122,13 +137,7 @@ pub fn replay(
 {
     measure(cells)?;
     let mut counts = Counts { cells };
-    begin_on(net, &mut counts, trail);
-    let mut carried = 0;
-    let end = carry_all(net, &mut counts, trail, bytes, &mut carried);
-    Ok(Replayed {
-        carried,
-        stop: end.err(),
-    })
+    Ok(replay_on(net, &mut counts, trail, bytes))
 }
 
 // Replays a recording on a new bench in lent memory: the commands put into it, up to the first that is turned down.
