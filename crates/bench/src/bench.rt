@@ -1,4 +1,4 @@
-ghost use Rattle.bench.specs.Calls.{Stands, lent};
+ghost use Rattle.bench.specs.Calls.{Leads, lent};
 
 use crate::counts::Counts;
 use lent::list::LentList;
@@ -12,5 +12,5 @@ pub struct Bench<'n, 'a, 'c, 'b> {
     net: &'n Net,
     counts: &'a mut Counts<'c>,
     trail: &'a mut LentList<'b, Firing>,
-    ghost reached: { Stands net.now (lent counts.now trail.now) },
+    ghost reached: { Leads net.now (lent counts.now trail.now) },
 }

@@ -1,6 +1,6 @@
 use Rattle.std.proofs.Common.{◌≡◌, length}
 use Rattle.lent.specs.Held as list
-use Rattle.bench.specs.Calls.{Stands, lent}
+use Rattle.bench.specs.Calls.{Leads, lent}
 use Rattle.bench.specs.Counted.{loan}
 use Rattle.trace.proofs.Played.{Going}
 use Rattle.trace.proofs.replays.carry_all.Given as goal
@@ -8,7 +8,7 @@ use Rattle.trace.proofs.replays.carry_all.Given as goal
 abbrev pub invariant-commands : goal.invariant-commands
 invariant-commands l =
     Going l.net l.bytes l.rest (lent l.initial.counts l.initial.trail) (lent l.counts l.trail) l.carried
-    × Stands l.net (lent l.counts l.trail)
+    × Leads l.net (lent l.counts l.trail)
     × (loan l.counts ≡ loan l.initial.counts)
     × (list.loan l.trail ≡ list.loan l.initial.trail)
 
