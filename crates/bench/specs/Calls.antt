@@ -29,8 +29,8 @@ abbrev pub marking : Lent → Marking
 marking m c = slice_index m.counts c
 
 -- the firings on the trail lead from the initial marking to the counts
-abbrev pub Stands : SystemNet → Lent → Type 0
-Stands n l = Led n l.trail (marking l)
+abbrev pub Leads : SystemNet → Lent → Type 0
+Leads n l = Led n l.trail (marking l)
 
 -- begun from the memory l to k: the marking is the initial one, and the trail is empty, with its memory as it was
 pub record Begun (n : SystemNet) (l k : Lent) : Type 0 where

@@ -1,4 +1,4 @@
-ghost use Rattle.bench.specs.Calls.{Stands, lent};
+ghost use Rattle.bench.specs.Calls.{Leads, lent};
 ghost use Rattle.net.specs.Of.{system};
 
 use crate::counts::Counts;
@@ -13,5 +13,5 @@ pub struct Bench<'n, 'a, 'c, 'b> {
     net: &'n Net,
     counts: &'a mut Counts<'c>,
     trail: &'a mut LentList<'b, Firing>,
-    ghost reached: { Stands (system net.now) (lent counts.now trail.now) },
+    ghost reached: { Leads (system net.now) (lent counts.now trail.now) },
 }

@@ -2,7 +2,7 @@
 // parts, as a replay is, makes them on those and knows what their lender finds there afterwards.
 ghost use Rattle.std.specs.Prelude.{◌≡◌, [], ◌∷◌, ◌++◌, length, Ok, Err, slice_set};
 ghost use Rattle.lent.specs.Held as list;
-ghost use Rattle.bench.specs.Calls.{BackCalled, Begun, Checked, FireCalled, Opened, Returns, Stands, UndoCalled, lent};
+ghost use Rattle.bench.specs.Calls.{BackCalled, Begun, Checked, FireCalled, Opened, Returns, Leads, UndoCalled, lent};
 ghost use Rattle.bench.specs.Counted.{loan, tokens};
 ghost use Rattle.bench.specs.Path.{NeverFull};
 ghost use Rattle.net.specs.Of.{system};
@@ -16,7 +16,7 @@ use term::Fault;
 // The initial marking, and an empty trail.
 pub fn begin_on(net: &Net, counts: &mut Counts, trail: &mut LentList<Firing>)
     ensures begun { Begun (system net.now) (lent counts.old trail.old) (lent counts.new trail.new) }
-    ensures stands { Stands (system net.now) (lent counts.new trail.new) }
+    ensures leads { Leads (system net.now) (lent counts.new trail.new) }
     ensures counts_loan { loan counts.new ≡ loan counts.old }
     ensures trail_loan { list.loan trail.new ≡ list.loan trail.old }
 {
@@ -62,8 +62,8 @@ pub fn fire_on(
     firing: Firing,
 ) -> Result<(), Fault>
     ensures called { FireCalled (system net.now) firing (lent counts.old trail.old) (lent counts.new trail.new) result }
-    ensures stands { Stands (system net.now) (lent counts.old trail.old) → Stands (system net.now) (lent counts.new trail.new) }
-    ensures never_full { Stands (system net.now) (lent counts.old trail.old) → NeverFull (system net.now) result }
+    ensures leads { Leads (system net.now) (lent counts.old trail.old) → Leads (system net.now) (lent counts.new trail.new) }
+    ensures never_full { Leads (system net.now) (lent counts.old trail.old) → NeverFull (system net.now) result }
     ensures counts_loan { loan counts.new ≡ loan counts.old }
     ensures trail_loan { list.loan trail.new ≡ list.loan trail.old }
 {
@@ -92,8 +92,8 @@ fn undo(net: &Net, counts: &mut Counts, firing: Firing)
 // before the newest, and a path leads to it.
 pub fn back_on(net: &Net, counts: &mut Counts, trail: &mut LentList<Firing>) -> Result<(), Fault>
     ensures undone { UndoCalled (system net.now) (lent counts.old trail.old) (lent counts.new trail.new) result }
-    ensures called { Stands (system net.now) (lent counts.old trail.old) → BackCalled (system net.now) (lent counts.old trail.old) (lent counts.new trail.new) result }
-    ensures stands { Stands (system net.now) (lent counts.old trail.old) → Stands (system net.now) (lent counts.new trail.new) }
+    ensures called { Leads (system net.now) (lent counts.old trail.old) → BackCalled (system net.now) (lent counts.old trail.old) (lent counts.new trail.new) result }
+    ensures leads { Leads (system net.now) (lent counts.old trail.old) → Leads (system net.now) (lent counts.new trail.new) }
     ensures counts_loan { loan counts.new ≡ loan counts.old }
     ensures trail_loan { list.loan trail.new ≡ list.loan trail.old }
 {

@@ -6,7 +6,7 @@ use Rattle.term.specs.Faults.{number_of}
 use Rattle.term.specs.declared.fault.Fault.{Fault}
 use Rattle.net.specs.declared.firing.Firing.{Firing}
 use Rattle.net.specs.System.{SystemNet}
-use Rattle.bench.specs.Calls.{Begun, Lent, Stands, marking}
+use Rattle.bench.specs.Calls.{Begun, Lent, Leads, marking}
 use Rattle.net.specs.Runs.{Reachable}
 use Rattle.bench.proofs.Walks.{reachable}
 use Rattle.trace.specs.Carrying.{Does, Done, Refuses, TurnedDown}
@@ -83,12 +83,12 @@ answered k (Ok u) o h = ap (λ (x : Option Stop). record { carried = k; stop = x
 answered k (Err s) o h = ap (λ (x : Option Stop). record { carried = k; stop = x }) (sym h)
 
 -- the whole of a replay
-pub played : (n : SystemNet) (bs : List ℕ) (l x k : Lent) (count : ℕ) (e : Result (Unit {0}) Stop) (o : Option Stop) → Begun n l x → Ran n bs x k (replayed count e) → Stands n k → o ≡ result_err e → Played n bs l k (record { carried = count; stop = o })
+pub played : (n : SystemNet) (bs : List ℕ) (l x k : Lent) (count : ℕ) (e : Result (Unit {0}) Stop) (o : Option Stop) → Begun n l x → Ran n bs x k (replayed count e) → Leads n k → o ≡ result_err e → Played n bs l k (record { carried = count; stop = o })
 played n bs l x k count e o h p s i = record {
   start = x;
   begun = h;
   ran = subst (λ (y : Replayed). Ran n bs x k y) (answered count e o i) p;
-  stands = s;
+  leads = s;
   reachable = run;
   bounded = λ c b u. u (marking k) run;
 }

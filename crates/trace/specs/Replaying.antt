@@ -8,7 +8,7 @@ use Rattle.term.specs.declared.fault.Fault.TheVariants.{Memory}
 use Rattle.net.specs.Runs.{Bounded, Reachable}
 use Rattle.net.specs.declared.firing.Firing.{Firing}
 use Rattle.net.specs.System.{SystemNet}
-use Rattle.bench.specs.Calls.{Begun, Lent, Stands, marking}
+use Rattle.bench.specs.Calls.{Begun, Lent, Leads, marking}
 use Rattle.trace.specs.Carrying.{Done, FromBench, TurnedDown}
 use Rattle.trace.specs.Moves.{Move}
 use Rattle.trace.specs.Reading.{Close, SaysOnly, end, fault}
@@ -59,7 +59,7 @@ pub record Played (n : SystemNet) (bs : List ℕ) (l k : Lent) (r : Replayed) : 
   pub start : Lent
   pub begun : Begun n l start
   pub ran : Ran n bs start k r
-  pub stands : Stands n k
+  pub leads : Leads n k
   pub reachable : Reachable n (marking k)
   pub bounded : (c b : ℕ) → Bounded n c b → marking k c ≤ b
 

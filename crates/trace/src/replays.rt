@@ -1,5 +1,5 @@
 ghost use Rattle.std.specs.Prelude.{◌≡◌};
-ghost use Rattle.bench.specs.Calls.{Stands, lent};
+ghost use Rattle.bench.specs.Calls.{Leads, lent};
 ghost use Rattle.bench.specs.Counted.{loan};
 ghost use Rattle.lent.specs.Held as list;
 ghost use Rattle.trace.specs.Carrying.{CarryCalled};
@@ -61,9 +61,9 @@ fn carry_out(
     trail: &mut LentList<Firing>,
     command: Command,
 ) -> Result<(), Fault>
-    requires { Stands (system net.now) (lent counts.old trail.old) }
+    requires leads { Leads (system net.now) (lent counts.old trail.old) }
     ensures called { CarryCalled (system net.now) (move_of command) (lent counts.old trail.old) (lent counts.new trail.new) result }
-    ensures stands { Stands (system net.now) (lent counts.new trail.new) }
+    ensures leads { Leads (system net.now) (lent counts.new trail.new) }
     ensures counts_loan { loan counts.new ≡ loan counts.old }
     ensures trail_loan { list.loan trail.new ≡ list.loan trail.old }
 {
@@ -93,9 +93,9 @@ fn carry_all(
     carried: &mut u32,
 ) -> Result<(), Stop>
     requires counted { carried.old ≡ 0 }
-    requires stands { Stands (system net.now) (lent counts.old trail.old) }
+    requires leads { Leads (system net.now) (lent counts.old trail.old) }
     ensures ran { Ran (system net.now) bytes.now (lent counts.old trail.old) (lent counts.new trail.new) (replayed carried.new result) }
-    ensures stands { Stands (system net.now) (lent counts.new trail.new) }
+    ensures leads { Leads (system net.now) (lent counts.new trail.new) }
     ensures counts_loan { loan counts.new ≡ loan counts.old }
     ensures trail_loan { list.loan trail.new ≡ list.loan trail.old }
 {

@@ -13,6 +13,6 @@ returns-in-Some-clause-called c = λ led. (
   },
 )
 
-pub returns-in-Some-clause-stands : goal.returns-in-Some-clause-stands
-returns-in-Some-clause-stands c = λ led.
+pub returns-in-Some-clause-leads : goal.returns-in-Some-clause-leads
+returns-in-Some-clause-leads c = λ led.
     led-back (system c.args.net.now) _ _ c.in-Some.firing (tokens c.args.counts.now) (tokens c.undo.new.counts) c.in-Some.ensures.cases.0 c.undo.ensures.returns led

@@ -32,10 +32,10 @@ pub returns-in-Ok-clause-called : goal.returns-in-Ok-clause-called
 returns-in-Ok-clause-called c =
     record { fires = fired (goal.at.returns-in-Ok-clause-called c).After-shift; trail = c.in-Ok.ensures.cases.0; memory = c.in-Ok.ensures.cases.1 }
 
-pub returns-in-Ok-clause-stands : goal.returns-in-Ok-clause-stands
-returns-in-Ok-clause-stands c = λ led.
+pub returns-in-Ok-clause-leads : goal.returns-in-Ok-clause-leads
+returns-in-Ok-clause-leads c = λ led.
     let low = small-after c.args.counts.now c.of-change.result c.in_ok-checked.ensures (tokens c.shift.new.self) c.shift.ensures.shifted in
-    more (system c.args.net.now) _ _ c.args.firing (tokens c.args.counts.now) (tokens c.shift.new.self) c.in-Ok.ensures.cases.0 (fired (goal.at.returns-in-Ok-clause-stands c).After-shift) low led
+    more (system c.args.net.now) _ _ c.args.firing (tokens c.args.counts.now) (tokens c.shift.new.self) c.in-Ok.ensures.cases.0 (fired (goal.at.returns-in-Ok-clause-leads c).After-shift) low led
 
 pub returns-in-Err-clause-called : goal.returns-in-Err-clause-called
 returns-in-Err-clause-called c =
