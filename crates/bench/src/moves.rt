@@ -1,6 +1,6 @@
 // The calls of a bench over its parts: a net, counts and a trail. `Bench` makes them on its own parts. Who was lent the
 // parts, as a replay is, makes them on those and knows what their lender finds there afterwards.
-ghost use Rattle.std.specs.Prelude.{◌≡◌, [], ◌∷◌, ◌++◌, length, Ok, Err, slice_set};
+ghost use Rattle.std.specs.Prelude.{◌≡◌};
 ghost use Rattle.lent.specs.Held as list;
 ghost use Rattle.bench.specs.Calls.{BackCalled, Begun, Checked, FireCalled, Opened, Returns, Leads, UndoCalled, lent};
 ghost use Rattle.bench.specs.Counted.{loan, tokens};
