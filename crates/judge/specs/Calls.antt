@@ -6,7 +6,8 @@ use Rattle.term.specs.declared.fault.Fault.{Fault}
 use Rattle.term.specs.declared.fault.Fault.TheVariants as fault
 use Rattle.net.specs.Of.{system}
 use Rattle.net.specs.System.{SystemNet}
-use Rattle.net.specs.Nets.{Tallied, codes_of, given, taken}
+use Rattle.net.specs.Nets.{codes_of, given, taken}
+use Rattle.net.specs.Runs.{Counted}
 use Rattle.judge.specs.Judged.{Judged, Verdict}
 use Rattle.judge.specs.Theorem.{Exactly, Keeps, Right}
 use Rattle.judge.specs.declared.judging.Judge.{Judge}
@@ -23,7 +24,7 @@ none = replicate 1024 0
 -- the counts after judging: t− and t+ of the mode named if broken, else all 0
 abbrev pub Left : {V : Type 0} → SystemNet → Verdict V → List ℕ → List ℕ → Type 0
 Left n (Ok c) b a = (b ≡ none) × (a ≡ none)
-Left n (Err x) b a = Tallied none b (taken n x.firing.transition x.firing.mode) × Tallied none a (given n x.firing.transition x.firing.mode)
+Left n (Err x) b a = Counted b (taken n x.firing.transition x.firing.mode) × Counted a (given n x.firing.transition x.firing.mode)
 
 -- every code is a weight
 abbrev pub AllWeigh : {V : Type 0} → Meaning V → List ℤ → Type 0

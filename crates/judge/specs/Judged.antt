@@ -1,5 +1,5 @@
 -- What judging answers: the verdict, the first mode that breaks a claim, and the number of modes.
-use Rattle.std.specs.Prelude.{◌≡◌, ℕ, zero, suc, ◌+◌, ◌-◌, ◌^◌, ◌<◌, min, true, cond, List, length, ℤ, Ok, Err, Result}
+use Rattle.std.specs.Prelude.{◌≡◌, ℕ, zero, suc, ◌+◌, ◌<◌, true, cond, List, length, ℤ, Ok, Err, Result}
 use Rattle.domain.specs.Meaning.{Meaning}
 use Rattle.format.specs.Format.{mode_count}
 use Rattle.term.specs.Worth.{value_of}
@@ -27,10 +27,6 @@ firing n t (suc i) = firing n t i + cond (guard_holds n t (mode n t i)) 1 0
 unfoldable pub number : SystemNet → ℕ → ℕ
 number n zero = 0
 number n (suc k) = number n k + firing n k (modes_of n k)
-
--- a number that is held at the largest of 32 bits; nets that were read stay far below it
-abbrev pub held : ℕ → ℕ
-held k = min k (2 ^ 32 - 1)
 
 module _ {V : Type 0} (d : Meaning V) (codes : List ℤ) (n : SystemNet) where
   -- the values of what a transition takes in a mode, and of what it puts
@@ -61,10 +57,10 @@ module _ {V : Type 0} (d : Meaning V) (codes : List ℤ) (n : SystemNet) where
 
   -- the answer for the transition k
   abbrev pub JudgedModes : ℕ → Verdict V → Type 0
-  JudgedModes k (Ok c) = (c ≡ held (firing n k (modes_of n k))) × Kept k (modes_of n k)
+  JudgedModes k (Ok c) = (c ≡ firing n k (modes_of n k)) × Kept k (modes_of n k)
   JudgedModes k (Err x) = (x.firing.transition ≡ k) × First k x.firing.mode x.before x.after
 
   -- the answer for all transitions
   abbrev pub Judged : Verdict V → Type 0
-  Judged (Ok c) = (c ≡ held (number n (length n.transitions))) × KeptAll (length n.transitions)
+  Judged (Ok c) = (c ≡ number n (length n.transitions)) × KeptAll (length n.transitions)
   Judged (Err x) = (x.firing.transition < length n.transitions) × KeptAll x.firing.transition × First x.firing.transition x.firing.mode x.before x.after
