@@ -40,17 +40,9 @@ pub record Ready (n : SystemNet) (m : Memory) (s : LentList Outcome) : Type 0 wh
   pub fits : Fits m
   pub room : length (held s) + length n.claims ≤ length (memory s)
 
--- the claims before this one are judged onto the sheet, and a code of this one is no weight of its kind
-pub record StopsAt (n : SystemNet) (m k : Memory) (s t : LentList Outcome) (claim : ℕ) : Type 0 where
-  pub there : claim < length n.claims
-  pub left : Memory
-  pub added : Added n m left s t claim
-  pub refused : ByItsKind n claim left k (Err fault.NoWeight)
-
 -- from the memory m and the sheet s to the memory k and the sheet t
 abbrev pub Surveyed : SystemNet → Memory → Memory → LentList Outcome → LentList Outcome → Result (Unit {0}) Fault → Type 0
 Surveyed n m k s t (Ok u) = Ready n m s × Added n m k s t (length n.claims)
 Surveyed n m k s t (Err fault.Memory) = (Fits m → ⊥) × (k ≡ m) × (t ≡ s)
 Surveyed n m k s t (Err fault.TrailFull) = Fits m × (length (memory s) < length (held s) + length n.claims) × (k ≡ m) × (t ≡ s)
-Surveyed n m k s t (Err fault.NoWeight) = Ready n m s × ((claim : ℕ) × StopsAt n m k s t claim)
 Surveyed n m k s t (Err e) = ⊥

@@ -3,7 +3,7 @@ use Rattle.std.proofs.lemmas.Result.{err_from_is_err_and}
 use Rattle.lent.specs.Held.{held, memory}
 use Rattle.judge.specs.Calls.{lent, net_of}
 use Rattle.judge.specs.Surveys.{Added}
-use Rattle.judge.proofs.Refusals.{by_its_kind, still_fits, stopped}
+use Rattle.judge.proofs.Refusals.{by_its_kind, refused, still_fits}
 use Rattle.judge.proofs.Sheets.{added_more, added_none, still_room}
 use Rattle.judge.proofs.judging.Judge.survey.Goals as goal
 
@@ -19,13 +19,12 @@ loop-claim-init c =
 
 pub returns-in_err-outcome-clause-surveyed : goal.returns-in_err-outcome-clause-surveyed
 returns-in_err-outcome-clause-surveyed c =
-    let p = err_from_is_err_and c.from_residual.result c.from_residual.ensures.1 in
     let n = net_of c.args.self.now in
     let i = c.loop-claim.claim in
     let inv = c.loop-claim.invariant in
     let there : i < length n.claims = omega (arith, c.claims-claim-end.ensures) in
-    rw (p.1, p.2) (stopped n i (lent c.args.self.now) (lent c.loop-claim.self) (lent c.judge_by_kind.new.self) c.args.sheet.now c.loop-claim.sheet c.in_err-outcome.field-0.0 inv.ready there
-    (still_fits _ _ inv.same inv.ready.fits) inv.added (by_its_kind n i _ _ _ there (rw inv.same.net at c.in_err-outcome.ensures.kinds)))
+    absurd (refused n i (lent c.loop-claim.self) (lent c.judge_by_kind.new.self) (still_fits _ _ inv.same inv.ready.fits) there c.in_err-outcome.field-0.0
+    (by_its_kind n i _ _ _ there (rw inv.same.net at c.in_err-outcome.ensures.kinds)) c.in_err-outcome.ensures.weighed)
 
 pub loop-claim-preserved : goal.loop-claim-preserved
 loop-claim-preserved c =
