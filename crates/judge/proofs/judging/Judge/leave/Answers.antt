@@ -1,22 +1,12 @@
-use Rattle.std.proofs.Common.{◌≡◌, ℕ, ◌+◌, List, get_or, length, replicate, ap, ◌∙◌, subst, arith}
-use Rattle.std.proofs.lemmas.List.{get_or-replicate, length-replicate}
-use Rattle.term.specs.Worth.{Marking}
-use Rattle.net.specs.Nets.{ExactlyTallied, given, taken}
-use Rattle.net.specs.Runs.{Counted}
+use Rattle.std.proofs.Common.{◌≡◌, ℕ, List, length, replicate, ap, ◌∙◌}
+use Rattle.net.specs.Nets.{given, taken}
+use Rattle.net.proofs.Tallied.{counted_zeros}
 use Rattle.judge.specs.Calls.{net_of, none}
 use Rattle.judge.proofs.judging.Judge.leave.Goals as goal
 
 -- what was filled with 0 is all 0
 cleared : (xs ys : List ℕ) → ys ≡ replicate (length xs) 0 → length xs ≡ 1024 → ys ≡ none
 cleared xs ys e l = e ∙ ap (λ (k : ℕ). replicate k 0) l
-
--- what is added to counts that are all 0
-added : (xs ys : List ℕ) (m : Marking) → xs ≡ none → ExactlyTallied xs ys m → Counted ys m
-added xs ys m e t c l =
-    let long : length xs ≡ 1024 = ap length e ∙ length-replicate {A = ℕ} 1024 0 in
-    let zero : get_or xs c 0 ≡ 0 = ap (λ (zs : List ℕ). get_or zs c 0) e ∙ get_or-replicate {A = ℕ} 1024 c 0 0 l in
-    let e = t c (omega arith) (omega arith) in
-    omega (arith, e, zero)
 
 pub returns-in-Err-clause-left : goal.returns-in-Err-clause-left
 returns-in-Err-clause-left g c =
@@ -25,7 +15,7 @@ returns-in-Err-clause-left g c =
     let m = c.in-Err.breach.firing.mode in
     let b = cleared c.args.self.now.before.now c.fill.new.self (c.fill.ensures.after (λ y h. h)) c.requires.before_long in
     let a = cleared c.args.self.now.after.now c.fill-2.new.self (c.fill-2.ensures.after (λ y h. h)) c.requires.after_long in
-    rw c.in-Err.is (added _ c.count.new.counts (taken n t m) b c.count.ensures.exact, added _ c.count-in-Err.new.counts (given n t m) a c.count-in-Err.ensures.exact)
+    rw c.in-Err.is (counted_zeros _ c.count.new.counts (taken n t m) b c.count.ensures.exact, counted_zeros _ c.count-in-Err.new.counts (given n t m) a c.count-in-Err.ensures.exact)
 
 pub returns-in_default-clause-left : goal.returns-in_default-clause-left
 returns-in_default-clause-left g c =
