@@ -8,34 +8,25 @@ use Rattle.term.specs.declared.fault.Fault.TheVariants as fault
 use Rattle.net.specs.declared.firing.Firing.{Firing}
 use Rattle.net.specs.System.{SystemNet}
 use Rattle.net.specs.Nets.{given, taken}
-use Rattle.net.specs.Runs.{Fires, cells}
+use Rattle.net.specs.Runs.{Counted, Fires, cells}
 use Rattle.bench.specs.Calls.{Checked, FireCalled, FireRefused, Lacking, Lent, Lowest, Nowhere, Open, Passing, Roomy, lent, marking}
-use Rattle.bench.specs.Counted.{Counted, changed, tokens}
+use Rattle.bench.specs.Counted.{changed, tokens}
 use Rattle.bench.specs.Path.{Led, NeverFull, Small}
 use Rattle.bench.specs.declared.change.Change.{Change}
 use Rattle.bench.specs.declared.counts.Counts.{Counts}
 use Rattle.bench.proofs.Walks.{reachable-next}
 
--- what is known of a change that a firing makes, on counts that fit sixteen bits
-pub record Sized (n : SystemNet) (f : Firing) (k : Counts) (d : Change) : Type 0 where
-  pub takes : Counted d.takes (taken n f.transition f.mode)
-  pub puts : Counted d.puts (given n f.transition f.mode)
-  pub small : Small (tokens k)
-
-pub sized : {n : SystemNet} {f : Firing} {d : Change} (k : Counts) → Counted d.takes (taken n f.transition f.mode) → Counted d.puts (given n f.transition f.mode) → Small (tokens k) → Sized n f k d
-sized k takes puts small = record { takes = takes; puts = puts; small = small }
-
-module _ {n : SystemNet} {f : Firing} {k : Counts} {d : Change} (s : Sized n f k d) where
+module _ (n : SystemNet) (f : Firing) (k : Counts) (d : Change) (takes : Counted d.takes (taken n f.transition f.mode)) (puts : Counted d.puts (given n f.transition f.mode)) where
   enough : (c : ℕ) → c < 1024 → get_or d.takes c 0 ≤ tokens k c → taken n f.transition f.mode c ≤ tokens k c
-  enough c l h = let e = s.takes c l in let z = s.small c l in omega (arith, e, z, h)
+  enough c l h = let e = takes c l in omega (arith, e, h)
 
-  exact : (c : ℕ) → c < 1024 → changed k d c < 2 ^ 16 → changed k d c ≡ tokens k c - taken n f.transition f.mode c + given n f.transition f.mode c
-  exact c l h = let e = s.takes c l in let g = s.puts c l in let z = s.small c l in omega (arith, e, g, z, h)
+  exact : (c : ℕ) → c < 1024 → changed k d c ≡ tokens k c - taken n f.transition f.mode c + given n f.transition f.mode c
+  exact c l = let e = takes c l in let g = puts c l in omega (arith, e, g)
 
   lacks : (c : ℕ) → Checked k d (Err (fault.Lacks c)) → Lowest (Lacking n f (tokens k)) c
   lacks c h = record {
     within = h.0;
-    here = let e = s.takes c h.0 in let z = h.1 in omega (arith, e, z);
+    here = let e = takes c h.0 in let z = h.1 in omega (arith, e, z);
     lower = λ i l p. let m : i < 1024 = omega (arith, l, h.0) in let z = enough i m (h.2 i l) in omega (arith, z, p);
   }
 
@@ -43,12 +34,12 @@ module _ {n : SystemNet} {f : Firing} {k : Counts} {d : Change} (s : Sized n f k
   none-lacks h c l p = let z = enough c l (h c l) in omega (arith, z, p)
 
   none-passes : (c : ℕ) → c < cells → changed k d c < 2 ^ 16 → Passing n f (tokens k) c → ⊥
-  none-passes c l h p = let z = exact c l h in omega (arith, z, p, h)
+  none-passes c l h p = let z = exact c l in omega (arith, z, p, h)
 
   passes : (c : ℕ) → Checked k d (Err (fault.Full c)) → Lowest (Passing n f (tokens k)) c
   passes c h = record {
     within = h.1;
-    here = let e = s.takes c h.1 in let g = s.puts c h.1 in let z = s.small c h.1 in let y = h.2 in omega (arith, e, g, z, y);
+    here = let z = exact c h.1 in let y = h.2 in omega (arith, z, y);
     lower = λ i l p. let m : i < 1024 = omega (arith, l, h.1) in none-passes i m (h.3 i l) p;
   }
 
@@ -67,7 +58,7 @@ module _ {n : SystemNet} {f : Firing} {k : Counts} {d : Change} (s : Sized n f k
     mode = o.mode;
     guard = o.guard;
     enough = λ c l. enough c l (h c l).0;
-    new = λ c l. let z = exact c l (h c l).1 in let y = new c l (h c l).1 in omega (arith, z, y);
+    new = λ c l. let z = exact c l in let y = new c l (h c l).1 in omega (arith, z, y);
   }
 
 -- once a change that was found to fit is made, the counts fit sixteen bits

@@ -98,9 +98,6 @@ module _ (n : SystemNet) where
   further a [] x t m b p h = (b, (fires-from t m a x b p h, λ c h. refl))
   further a (f ∷ fs) x t m b p h = (p.0, (p.1.0, further p.0 fs x t m b p.1.1 h))
 
-  pub small : (fs : List Firing) (b : Marking) → Led n fs b → Small b
-  small fs b p = λ c h. ∥∥₁_elim p le_prop (λ q. small-last (initial n) fs b q c h)
-
   pub reachable : (fs : List Firing) (b : Marking) → Led n fs b → Reachable n b
   reachable fs b p = (steps fs, run (initial n) fs b p)
 
@@ -124,7 +121,7 @@ module _ (n : SystemNet) where
 
   module _ (fs gs : List Firing) (f : Firing) (b x : Marking) (e : fs ≡ gs ++ f ∷ []) (h : Returns n f b x) (p : Led n fs b) where
     is : (l : Last gs f b) → Alike x l.0
-    is l = h l.0 (small-last (initial n) gs l.0 l.1.0) (small fs b p) l.1.1
+    is l = h l.0 (small-last (initial n) gs l.0 l.1.0) l.1.1
 
     pub led-back : Led n gs x
     led-back = ∥∥₁_elim p ∥∥₁_prop (λ q. let l = last fs gs f b e q in ∣ path-to (initial n) gs l.0 x (λ c h. sym (is l c h)) l.1.0 ∣₁)

@@ -106,7 +106,7 @@ Checked k d (Err e) = ⊥
 
 -- if the firing f led to the marking a from one that fits sixteen bits, then b is that one
 abbrev pub Returns : SystemNet → Firing → Marking → Marking → Type 0
-Returns n f a b = (x : Marking) → Small x → Small a → Fires n f.transition f.mode x a → Alike b x
+Returns n f a b = (x : Marking) → Small x → Fires n f.transition f.mode x a → Alike b x
 
 -- a back carried out, from the memory l to k: the newest firing f is off the trail, whose memory stays, and the marking
 -- is the one from which f led here

@@ -68,7 +68,6 @@ pub fn fire_on(
     ensures trail_loan { list.loan trail.new ≡ list.loan trail.old }
 {
     opened(net, firing)?;
-    counts.small();
     let change = Change::of(net, firing);
     checked(counts, &change)?;
     match trail.push(firing) {

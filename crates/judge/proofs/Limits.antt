@@ -67,7 +67,7 @@ module _ {V : Type 0} {d : Meaning V} (l : Laws d) (codes : List ℤ) where
         subst (d.rel (value_of d codes (initial n))) (value_split m cell here) r,
       )
 
-      bounded : (b c : ℕ) → CapIs d plain codes n cell (Some b) → Keeps d codes n (Ok c) → Bounded n cell b
+      pub bounded : (b c : ℕ) → CapIs d plain codes n cell (Some b) → Keeps d codes n (Ok c) → Bounded n cell b
       bounded b c told keeps m reach =
           ⊎_elim (λ (h : m cell ≤ b). h) (λ (h : b < m cell). absurd (told.1 (m cell) h (reaches m (keeps (initial n) m reach.0 reach.1)))) (either (m cell) b)
         where

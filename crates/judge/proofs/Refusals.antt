@@ -1,49 +1,109 @@
--- On memory that fits, judging a claim that the net has by its kind never fails.
-use Rattle.std.proofs.Common.{◌≡◌, ℕ, ◌<◌, length, Ok, Err, Result, sym, refl, ◌∙◌, subst, arith}
+-- Why judging a claim is refused. By kind, on memory that fits, a claim of the net never is.
+use Rattle.std.proofs.Common.{◌≡◌, ℕ, ◌<◌, ◌≤◌, length, pos, ◌≤ℤ◌, Ok, Err, Option, Result, sym, refl, ap, ◌∙◌, subst, ⊎_elim, arith}
 use Rattle.domain.specs.Domains.{equal, modulo, never_rises, siphon, turned}
 use Rattle.domain.specs.Meaning.{Meaning}
 use Rattle.domain.specs.declared.kind.Kind.{Kind}
 use Rattle.domain.specs.declared.kind.Kind.TheVariants as kind
 use Rattle.term.specs.declared.fault.Fault.{Fault}
 use Rattle.term.specs.declared.fault.Fault.TheVariants as fault
-use Rattle.net.specs.System.{SystemNet}
-use Rattle.net.specs.Nets.{IsKind, claim_of, codes_of}
 use Rattle.net.specs.Of.{system}
+use Rattle.net.specs.System.{SystemNet}
 use Rattle.net.specs.declared.net.Net.{Net}
+use Rattle.net.specs.declared.parts.Claim.{Claim}
 use Rattle.net.proofs.Every.{weights}
+use Rattle.std.proofs.lemmas.List.{get_or_past}
+use Rattle.std.proofs.lemmas.Bool.{cases_lt}
+use Rattle.net.specs.Nets.{IsKind, claim_of, codes_of, no_claim}
 use Rattle.judge.specs.Calls.{AllWeigh, Called, Fits, Memory, SameLoans, lent}
-use Rattle.judge.specs.Kinds.{By, ByKind, Outcome}
+use Rattle.judge.specs.Kinds.{By, ByKind, Outcome, Weighed}
+use Rattle.judge.specs.Caps.{Asked, AskedByKind, Blind}
 use Rattle.judge.specs.Surveys.{ByItsKind}
 use Rattle.judge.specs.declared.judging.Judge.{Judge}
 
 pub still_fits : (v w : Judge) → SameLoans v w → Fits (lent v) → Fits (lent w)
 still_fits v w s f = record { codes_long = s.codes.long ∙ f.codes_long; before_long = s.before.long ∙ f.before_long; after_long = s.after.long ∙ f.after_long }
 
-module _ (net : Net) (claim : ℕ) (m k : Memory) (fits : Fits m) (there : claim < length (system net).claims) where
-  abbrev n : SystemNet
-  n = system net
+-- under a domain of which all the claim's codes are weights, none is found to be no weight
+module _ {V : Type 0} (d : Meaning V) (n : SystemNet) (claim : ℕ) (m k : Memory) (all : AllWeigh d (codes_of n claim)) where
+  called : Called d n claim m k (Err fault.NoWeight) → ⊥
+  called c = c.3 (subst (AllWeigh d) (sym c.2) all)
 
-  called : {V : Type 0} (d : Meaning V) → AllWeigh d (codes_of n claim) → (e : Fault) → Called d n claim m k (Err e) → ⊥
-  called d w fault.NoWeight c = c.3 (subst (AllWeigh d) (sym c.2) w)
-  called d w fault.Memory c = c.0 fits
-  called d w fault.NoClaim c = let z = c.1 in let y : ⊥ = omega arith in y
-  called d w e c = absurd c
+  pub judged : (r : Result Outcome Fault) → By d n claim m k r → Weighed r
+  judged r (Ok v, (c, q)) e = let p = sym q ∙ e in cc
+  judged r (Err f, (c, q)) e = let p : f ≡ fault.NoWeight = cc in called (subst (λ (x : Fault). Called d n claim m k (Err x)) p c)
 
-  by : {V : Type 0} (d : Meaning V) → AllWeigh d (codes_of n claim) → (e : Fault) → By d n claim m k (Err e) → ⊥
-  by d w e (Ok r, (c, q)) = let z : ◌≡◌ {A = ℕ} 0 1 = cc in let y : ⊥ = omega arith in y
-  by d w e (Err f, (c, q)) = called d w f c
+  pub asked : (plain : V → Type 0) (cell : ℕ) (r : Result (Option ℕ) Fault) → Asked d plain n claim cell m k r → Weighed r
+  asked plain cell r a e = called (subst (λ (x : Result (Option ℕ) Fault). Asked d plain n claim cell m k x) e a).1
 
-  by_kind : (x : Kind) → IsKind n claim x → (e : Fault) → ByKind x n claim m k (Err e) → ⊥
-  by_kind kind.Equal is e b = by equal (λ c h. weights net claim c kind.Equal is h) e b
-  by_kind kind.NeverRises is e b = by never_rises (λ c h. weights net claim c kind.NeverRises is h) e b
-  by_kind kind.NeverFalls is e b = by (turned never_rises) (λ c h. weights net claim c kind.NeverFalls is h) e b
-  by_kind (kind.Modulo x) is e b = by (modulo x.k) (λ c h. weights net claim c (kind.Modulo x) is h) e b
-  by_kind kind.Trap is e b = by (turned siphon) (λ c h. weights net claim c kind.Trap is h) e b
-  by_kind kind.Siphon is e b = by siphon (λ c h. weights net claim c kind.Siphon is h) e b
+its_kind : (n : SystemNet) (claim : ℕ) → claim < length n.claims → IsKind n claim (claim_of n claim).kind
+its_kind n claim h = record { there = h; is = refl }
 
-  pub refused : (e : Fault) → ByItsKind n claim m k (Err e) → ⊥
-  refused e b = by_kind (claim_of n claim).kind (record { there = there; is = refl }) e b
+-- in a net in memory the codes of a claim are weights of its kind
+module _ (n : Net) (claim : ℕ) (m k : Memory) where
+  abbrev N : SystemNet
+  N = system n
+
+  pub kind_judged : (x : Kind) → IsKind N claim x → (r : Result Outcome Fault) → ByKind x N claim m k r → Weighed r
+  kind_judged kind.Equal is r b = judged equal N claim m k (λ c h. weights n claim c kind.Equal is h) r b
+  kind_judged kind.NeverRises is r b = judged never_rises N claim m k (λ c h. weights n claim c kind.NeverRises is h) r b
+  kind_judged kind.NeverFalls is r b = judged (turned never_rises) N claim m k (λ c h. weights n claim c kind.NeverFalls is h) r b
+  kind_judged (kind.Modulo x) is r b = judged (modulo x.k) N claim m k (λ c h. weights n claim c (kind.Modulo x) is h) r b
+  kind_judged kind.Trap is r b = judged (turned siphon) N claim m k (λ c h. weights n claim c kind.Trap is h) r b
+  kind_judged kind.Siphon is r b = judged siphon N claim m k (λ c h. weights n claim c kind.Siphon is h) r b
+
+  -- where there is no claim, none is found either
+  no_claims : {V : Type 0} (d : Meaning V) → length N.claims ≤ claim → AllWeigh d (codes_of N claim)
+  no_claims d h c l = let z = ap (λ (x : Claim). length x.codes) (get_or_past N.claims claim no_claim h) in absurd (omega arith)
+
+  pub either_judged : (r : Result Outcome Fault) → ((x : Kind) → IsKind N claim x → ByKind x N claim m k r) → (length N.claims ≤ claim → By equal N claim m k r) → Weighed r
+  either_judged r kinds none = ⊎_elim
+      (λ (h : claim < length N.claims). let is = its_kind N claim h in kind_judged (claim_of N claim).kind is r (kinds (claim_of N claim).kind is))
+      (λ (h : length N.claims ≤ claim). judged equal N claim m k (no_claims equal h) r (none h))
+      (cases_lt claim (length N.claims))
+
+  -- the same of caps
+  module _ (cell : ℕ) where
+    blind : (r : Result (Option ℕ) Fault) → Blind N claim cell m k r → Weighed r
+    blind r b e = (subst (λ (x : Result (Option ℕ) Fault). Blind N claim cell m k x) e b).0
+
+    pub kind_asked : (x : Kind) → IsKind N claim x → (r : Result (Option ℕ) Fault) → AskedByKind x N claim cell m k r → Weighed r
+    kind_asked kind.Equal is r a = asked equal N claim m k (λ c h. weights n claim c kind.Equal is h) (λ v. pos 0 ≤ℤ v) cell r a
+    kind_asked kind.NeverRises is r a = asked never_rises N claim m k (λ c h. weights n claim c kind.NeverRises is h) (λ v. pos 0 ≤ℤ v) cell r a
+    kind_asked kind.NeverFalls is r a = blind r a
+    kind_asked (kind.Modulo x) is r a = blind r a
+    kind_asked kind.Trap is r a = blind r a
+    kind_asked kind.Siphon is r a = asked siphon N claim m k (λ c h. weights n claim c kind.Siphon is h) (λ v. Unit {0}) cell r a
+
+    pub either_asked : (r : Result (Option ℕ) Fault) → ((x : Kind) → IsKind N claim x → AskedByKind x N claim cell m k r)
+        → (length N.claims ≤ claim → Asked equal (λ v. pos 0 ≤ℤ v) N claim cell m k r) → Weighed r
+    either_asked r kinds none = ⊎_elim
+        (λ (h : claim < length N.claims). let is = its_kind N claim h in kind_asked (claim_of N claim).kind is r (kinds (claim_of N claim).kind is))
+        (λ (h : length N.claims ≤ claim). asked equal N claim m k (no_claims equal h) (λ v. pos 0 ≤ℤ v) cell r (none h))
+        (cases_lt claim (length N.claims))
+
+-- on memory that fits, judging a claim of the net by kind is refused for no other reason
+module _ (n : SystemNet) (claim : ℕ) (m k : Memory) (fits : Fits m) (there : claim < length n.claims) where
+  only : {V : Type 0} (d : Meaning V) (e : Fault) → Called d n claim m k (Err e) → e ≡ fault.NoWeight
+  only d fault.NoWeight c = refl
+  only d fault.Memory c = absurd (c.0 fits)
+  only d fault.NoClaim c = let z = c.1 in absurd (omega arith)
+  only d e c = absurd c
+
+  by : {V : Type 0} (d : Meaning V) (e : Fault) → By d n claim m k (Err e) → e ≡ fault.NoWeight
+  by d e (Ok r, (c, q)) = cc
+  by d e (Err f, (c, q)) = let p = only d f c in cc
+
+  by_kind : (x : Kind) (e : Fault) → ByKind x n claim m k (Err e) → e ≡ fault.NoWeight
+  by_kind kind.Equal e b = by equal e b
+  by_kind kind.NeverRises e b = by never_rises e b
+  by_kind kind.NeverFalls e b = by (turned never_rises) e b
+  by_kind (kind.Modulo x) e b = by (modulo x.k) e b
+  by_kind kind.Trap e b = by (turned siphon) e b
+  by_kind kind.Siphon e b = by siphon e b
+
+  pub refused : (e : Fault) → ByItsKind n claim m k (Err e) → Weighed {A = Outcome} (Err e) → ⊥
+  refused e b w = w (ap (λ (x : Fault). Err x) (by_kind (claim_of n claim).kind e b))
 
 -- a claim that is judged for every kind that it has is judged by its kind
 pub by_its_kind : (n : SystemNet) (claim : ℕ) (m k : Memory) (r : Result Outcome Fault) → claim < length n.claims → ((x : Kind) → IsKind n claim x → ByKind x n claim m k r) → ByItsKind n claim m k r
-by_its_kind n claim m k r there b = b (claim_of n claim).kind (record { there = there; is = refl })
+by_its_kind n claim m k r there b = b (claim_of n claim).kind (its_kind n claim there)

@@ -1,13 +1,13 @@
 -- What a caller's memory holds after a call of the judge, and why a call is refused.
-use Rattle.std.specs.Prelude.{◌≡◌, ℕ, ◌<◌, ◌≤◌, true, List, length, replicate, ℤ, pos, Ok, Err, Result, slice_index, slice_index_or}
+use Rattle.std.specs.Prelude.{◌≡◌, ℕ, ◌<◌, ◌≤◌, true, List, length, replicate, ℤ, pos, Ok, Err, Result, slice_index_or}
 use Rattle.std.specs.Borrow.{MutBor}
 use Rattle.domain.specs.Meaning.{Meaning}
 use Rattle.term.specs.declared.fault.Fault.{Fault}
 use Rattle.term.specs.declared.fault.Fault.TheVariants as fault
-use Rattle.term.specs.Worth.{Marking}
 use Rattle.net.specs.Of.{system}
 use Rattle.net.specs.System.{SystemNet}
 use Rattle.net.specs.Nets.{codes_of, given, taken}
+use Rattle.net.specs.Runs.{Counted}
 use Rattle.judge.specs.Judged.{Judged, Verdict}
 use Rattle.judge.specs.Theorem.{Exactly, Keeps, Right}
 use Rattle.judge.specs.declared.judging.Judge.{Judge}
@@ -21,14 +21,10 @@ pub record Measured (codes : List ℤ) (before after : List ℕ) : Type 0 where
 abbrev pub none : List ℕ
 none = replicate 1024 0
 
--- the counts are those of a marking
-abbrev pub AreOf : List ℕ → Marking → Type 0
-AreOf ns m = (c : ℕ) → c < 1024 → slice_index ns c ≡ m c
-
 -- the counts after judging: t− and t+ of the mode named if broken, else all 0
 abbrev pub Left : {V : Type 0} → SystemNet → Verdict V → List ℕ → List ℕ → Type 0
 Left n (Ok c) b a = (b ≡ none) × (a ≡ none)
-Left n (Err x) b a = AreOf b (taken n x.firing.transition x.firing.mode) × AreOf a (given n x.firing.transition x.firing.mode)
+Left n (Err x) b a = Counted b (taken n x.firing.transition x.firing.mode) × Counted a (given n x.firing.transition x.firing.mode)
 
 -- every code is a weight
 abbrev pub AllWeigh : {V : Type 0} → Meaning V → List ℤ → Type 0

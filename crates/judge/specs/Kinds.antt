@@ -1,10 +1,11 @@
 -- Judging by kind: the verdict under the kind's domain, without its values.
-use Rattle.std.specs.Prelude.{◌≡◌, ℕ, Ok, Err, Result}
+use Rattle.std.specs.Prelude.{◌≡◌, ℕ, Ok, Err, Result, ◌≢◌}
 use Rattle.domain.specs.Meaning.{Meaning}
 use Rattle.domain.specs.Domains.{equal, modulo, never_rises, siphon, turned}
 use Rattle.domain.specs.declared.kind.Kind.{Kind}
 use Rattle.domain.specs.declared.kind.Kind.TheVariants as kind
 use Rattle.term.specs.declared.fault.Fault.{Fault}
+use Rattle.term.specs.declared.fault.Fault.TheVariants as fault
 use Rattle.net.specs.System.{SystemNet}
 use Rattle.net.specs.declared.firing.Firing.{Firing}
 use Rattle.judge.specs.Calls.{Called, Memory}
@@ -21,6 +22,10 @@ outcome_of (Err x) = Err x.firing
 abbrev pub shown : {V : Type 0} → Result (Verdict V) Fault → Result Outcome Fault
 shown (Ok r) = Ok (outcome_of r)
 shown (Err e) = Err e
+
+-- no code is found to be no weight: in every net the codes of a claim are weights of its kind
+abbrev pub Weighed : {A : Type 0} → Result A Fault → Type 0
+Weighed r = r ≢ Err fault.NoWeight
 
 -- r is what judging under a domain answers, without its values
 abbrev pub By : {V : Type 0} → Meaning V → SystemNet → ℕ → Memory → Memory → Result Outcome Fault → Type 0

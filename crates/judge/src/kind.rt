@@ -4,7 +4,7 @@ ghost use Rattle.net.specs.Nets.{IsKind};
 ghost use Rattle.lent.specs.Held.{loan};
 ghost use Rattle.judge.specs.Calls.{SameLoans, lent, net_of};
 ghost use Rattle.judge.specs.Caps.{Asked, AskedByKind, Limits};
-ghost use Rattle.judge.specs.Kinds.{By, ByKind};
+ghost use Rattle.judge.specs.Kinds.{By, ByKind, Weighed};
 ghost use Rattle.judge.specs.Surveys.{Surveyed};
 
 use crate::judging::Judge;
@@ -27,6 +27,7 @@ impl<'n, 'm> Judge<'n, 'm> {
     pub fn judge_by_kind(&mut self, claim: usize) -> Result<Outcome, Fault>
         ensures kinds { (k : Kind) → IsKind (net_of self.old) claim k → ByKind k (net_of self.old) claim (lent self.old) (lent self.new) result }
         ensures none { length (net_of self.old).claims ≤ claim → By equal (net_of self.old) claim (lent self.old) (lent self.new) result }
+        ensures weighed { Weighed result }
         ensures same { SameLoans self.old self.new }
     {
         match self.net.kind(claim) {
@@ -44,6 +45,7 @@ impl<'n, 'm> Judge<'n, 'm> {
     pub fn cap_by_kind(&mut self, claim: usize, cell: usize) -> Result<Option<u64>, Fault>
         ensures kinds { (k : Kind) → IsKind (net_of self.old) claim k → AskedByKind k (net_of self.old) claim cell (lent self.old) (lent self.new) result }
         ensures none { length (net_of self.old).claims ≤ claim → Asked equal (λ v. pos 0 ≤ℤ v) (net_of self.old) claim cell (lent self.old) (lent self.new) result }
+        ensures weighed { Weighed result }
         ensures limits { Limits (net_of self.old) cell result }
         ensures same { SameLoans self.old self.new }
     {

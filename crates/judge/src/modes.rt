@@ -35,7 +35,7 @@ impl<'n, 'm> Judge<'n, 'm> {
                         after,
                     });
                 }
-                seen = seen.saturating_add(1);
+                seen += 1;
             }
         }
         Ok(seen)
@@ -47,7 +47,7 @@ impl<'n, 'm> Judge<'n, 'm> {
     {
         let mut seen: u32 = 0;
         for t in 0..self.net.transitions() {
-            seen = seen.saturating_add(self.judge_modes(t, d)?);
+            seen += self.judge_modes(t, d)?;
         }
         Ok(seen)
     }

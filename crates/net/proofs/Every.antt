@@ -30,6 +30,10 @@ module _ (n : Net) where
   pub modes_in_all : sum_by (λ t. mode_count t.sizes) (system n).transitions ≤ 32 * 65536
   modes_in_all = ∥∥₁_elim n.sound le_prop (λ s. few_modes (system n) s)
 
+  -- there are few transitions
+  pub few_transitions : length (system n).transitions ≤ 32
+  few_transitions = ∥∥₁_elim n.sound le_prop (λ s. s.few_transitions)
+
   -- a transition has few modes
   pub modes_in_one : (t : ℕ) → mode_count (transition (system n) t).sizes ≤ 65536
   modes_in_one t = ∥∥₁_elim n.sound le_prop (λ s. ⊎_elim
@@ -44,6 +48,3 @@ module _ (n : Net) where
   -- the codes of a claim are weights of its kind
   pub weights : (claim c : ℕ) (k : Kind) → IsKind (system n) claim k → c < length (codes_of (system n) claim) → kind_weighs k (get_or (codes_of (system n) claim) c (pos 0)) ≡ true
   weights claim c k is there = ∥∥₁_elim n.sound (Bool-set _ _) (λ s. ap (λ j. kind_weighs j (get_or (codes_of (system n) claim) c (pos 0))) is.is ∙ (s.claims claim no_claim is.there).weights c (pos 0) there)
-
-  pub few_transitions : length (system n).transitions ≤ 32
-  few_transitions = ∥∥₁_elim n.sound le_prop (λ s. s.few_transitions)

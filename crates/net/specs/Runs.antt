@@ -8,6 +8,10 @@ use Rattle.net.specs.System.{SystemNet}
 abbrev pub cells : ℕ
 cells = 1024
 
+-- counts in memory are those of a marking
+abbrev pub Counted : List ℕ → Marking → Type 0
+Counted ns a = (c : ℕ) → c < cells → slice_index ns c ≡ a c
+
 -- transition t fires in the mode m and leads from the marking a to b
 pub record Fires (n : SystemNet) (t : ℕ) (m : List ℕ) (a b : Marking) : Type 0 where
   pub there : t < length n.transitions

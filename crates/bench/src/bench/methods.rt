@@ -3,13 +3,13 @@ ghost use Rattle.bench.specs.Calls.{BackCalled, Begun, CountCalled, FireCalled, 
 ghost use Rattle.net.specs.Runs.{Bounded, Reachable};
 ghost use Rattle.bench.specs.Path.{NeverFull};
 ghost use Rattle.bench.specs.Standing.{HasLoans, SameLoans, lent_of};
-ghost use Rattle.bench.specs.Values.{Related};
+ghost use Rattle.bench.specs.Values.{Capped, Related};
 ghost use Rattle.net.specs.Of.{system};
 
 use super::Bench;
 use crate::counts::Counts;
 use crate::moves::{back_on, begin_on, fire_on};
-use domain::WeightDomain;
+use domain::{Measuring, WeightDomain};
 use lent::list::LentList;
 use net::{Firing, Net};
 use term::Fault;
@@ -73,5 +73,11 @@ impl<'n, 'a, 'c, 'b> Bench<'n, 'a, 'c, 'b> {
     // relates to that of the marking now.
     pub fn stands<D: WeightDomain>(&self, d: &D)
         ensures { Related (D.meaning d.now) (system self.now.net.now) (marking (lent_of self.now)) }
+    {}
+
+    // Whatever was done on the bench, and whichever codes a measuring domain accepts for its net: no cell holds more than
+    // a cap that they give it.
+    pub fn keeps_caps<M: Measuring>(&self, m: &M)
+        ensures { Capped (M.WeightDomain.meaning m.now) (M.plain m.now) (system self.now.net.now) (marking (lent_of self.now)) }
     {}
 }

@@ -1,6 +1,6 @@
 ghost use Rattle.format.specs.declared.command.Direction.TheVariants.{In, Out};
 ghost use Rattle.net.specs.Nets.{arcs_of, given, side, taken};
-ghost use Rattle.bench.specs.Counted.{Counted};
+ghost use Rattle.net.specs.Runs.{Counted};
 ghost use Rattle.net.specs.Of.{system};
 
 use super::Change;

@@ -1,7 +1,6 @@
 ghost use Rattle.std.specs.Prelude.{◌≡◌, ℕ, ◌^◌, ◌<◌, ◌≤◌, length, Some, None, Ok, Err, ◌≢◌, slice_index};
 ghost use Rattle.term.specs.declared.fault.Fault.TheVariants.{Memory};
 ghost use Rattle.bench.specs.Counted.{changed, loan, tokens};
-ghost use Rattle.bench.specs.Path.{Small};
 
 use super::Counts;
 use crate::change::Change;
@@ -20,11 +19,6 @@ pub fn measure(cells: &[u16]) -> Result<(), Fault>
     }
 }
 
-// Numbers of sixteen bits are below 65,536.
-fn sixteen(numbers: &[u16])
-    ensures { (k : ℕ) → k < length numbers.now → slice_index numbers.now k < 2 ^ 16 }
-{}
-
 impl<'c> Counts<'c> {
     // Counts in memory that is measured here; memory of another length gets a fault.
     pub fn new(cells: &'c mut [u16]) -> Result<Counts<'c>, Fault>
@@ -39,13 +33,6 @@ impl<'c> Counts<'c> {
         ensures { result ≡ tokens self.now c }
     {
         self.cells.get(c).copied().unwrap_or(0)
-    }
-
-    // Every count is below 65,536.
-    pub(crate) fn small(&self)
-        ensures { Small (tokens self.now) }
-    {
-        sixteen(self.cells);
     }
 
     // The lowest cell that has less than is to be taken.

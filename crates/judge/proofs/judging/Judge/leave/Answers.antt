@@ -1,6 +1,6 @@
-use Rattle.std.proofs.Common.{◌≡◌, ℕ, List, length, replicate, ap, ◌∙◌, subst}
-use Rattle.net.specs.Nets.{ExactlyTallied, given, taken}
-use Rattle.net.proofs.Tallied.{from_zeros}
+use Rattle.std.proofs.Common.{◌≡◌, ℕ, List, length, replicate, ap, ◌∙◌}
+use Rattle.net.specs.Nets.{given, taken}
+use Rattle.net.proofs.Tallied.{counted_zeros}
 use Rattle.judge.specs.Calls.{net_of, none}
 use Rattle.judge.proofs.judging.Judge.leave.Goals as goal
 
@@ -15,9 +15,7 @@ returns-in-Err-clause-left g c =
     let m = c.in-Err.breach.firing.mode in
     let b = cleared c.args.self.now.before.now c.fill.new.self (c.fill.ensures.after (λ y h. h)) c.requires.before_long in
     let a = cleared c.args.self.now.after.now c.fill-2.new.self (c.fill-2.ensures.after (λ y h. h)) c.requires.after_long in
-    let takes = subst (λ (xs : List ℕ). ExactlyTallied xs c.count.new.counts (taken n t m)) b c.count.ensures.exact in
-    let puts = subst (λ (xs : List ℕ). ExactlyTallied xs c.count-in-Err.new.counts (given n t m)) a c.count-in-Err.ensures.exact in
-    rw c.in-Err.is (from_zeros 1024 c.count.new.counts (taken n t m) takes, from_zeros 1024 c.count-in-Err.new.counts (given n t m) puts)
+    rw c.in-Err.is (counted_zeros _ c.count.new.counts (taken n t m) b c.count.ensures.exact, counted_zeros _ c.count-in-Err.new.counts (given n t m) a c.count-in-Err.ensures.exact)
 
 pub returns-in_default-clause-left : goal.returns-in_default-clause-left
 returns-in_default-clause-left g c =

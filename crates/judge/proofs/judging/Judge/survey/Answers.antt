@@ -22,8 +22,8 @@ returns-in_err-outcome-clause-surveyed c =
     let i = c.loop-claim.claim in
     let inv = c.loop-claim.invariant in
     let there : i < length n.claims = omega (arith, c.claims-claim-end.ensures) in
-    absurd (refused c.args.self.now.net.now i (lent c.loop-claim.self) (lent c.judge_by_kind.new.self) (still_fits _ _ inv.same inv.ready.fits) there c.in_err-outcome.field-0.0
-    (by_its_kind n i _ _ _ there (rw inv.same.net at c.in_err-outcome.ensures.kinds)))
+    absurd (refused n i (lent c.loop-claim.self) (lent c.judge_by_kind.new.self) (still_fits _ _ inv.same inv.ready.fits) there c.in_err-outcome.field-0.0
+    (by_its_kind n i _ _ _ there (rw inv.same.net at c.in_err-outcome.ensures.kinds)) c.in_err-outcome.ensures.weighed)
 
 pub loop-claim-preserved : goal.loop-claim-preserved
 loop-claim-preserved c =
