@@ -94,7 +94,7 @@ fn a_cut_off_file_lacks_its_next_byte(rt: HostRuntime) -> Result<(), Fail> {
 }
 
 // Commands that stand wrongly, or with an operand out of range.
-const COMMANDS: [(&str, u8, usize, Stage); 73] = [
+const COMMANDS: [(&str, u8, usize, Stage); 74] = [
     ("00", 3, 0, Command),
     ("0D", 3, 0, Command),
     ("10", 3, 0, Command),
@@ -150,6 +150,8 @@ const COMMANDS: [(&str, u8, usize, Stage); 73] = [
     ("0140 0603010101", 2, 7, Command),
     ("0140 0110 0102 060401010203", 9, 11, Command),
     ("0140 0111 060301010200", 9, 9, Command),
+    // 65,550 modes, the fewest past the limit that sizes up to 64 give
+    ("010A 010F 0113 0117 060401020304", 9, 13, Command),
     ("0400 060000000000 0801", 6, 9, Command),
     ("0400 060000000000 09", 2, 9, Command),
     ("0A00", 6, 1, Command),

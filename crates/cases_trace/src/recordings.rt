@@ -1,6 +1,6 @@
 // Recordings: what they write, where they are full, and what their traces do.
-use crate::nets::{SMALL, joined, net_of, number};
 use crate::traces::{Left, QUIET, SENDING, check_replay};
+use cases::nets::{SMALL, joined, net_of, number};
 use std::process::Abort;
 use std::test::Fail;
 use term::Fault;

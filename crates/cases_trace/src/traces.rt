@@ -1,6 +1,6 @@
 // Replays of traces.
-use crate::firing::BLANK;
-use crate::nets::{SMALL, joined, net_of, repeated};
+use bench::Firing;
+use cases::nets::{SMALL, joined, net_of, repeated};
 use lent::list::LentList;
 use net::{CELLS, Net};
 use std::alloc::Global;
@@ -8,6 +8,12 @@ use std::process::Abort;
 use std::test::Fail;
 use term::Fault;
 use trace::{Replayed, replay};
+
+// Memory of a trail, before anything fires.
+const BLANK: Firing = Firing {
+    transition: 0,
+    mode: [0; 4],
+};
 
 // How many commands were carried out, and the number and the place of the fault, both 0 where the replay is done.
 type Ended = (u32, u8, usize);

@@ -1,6 +1,8 @@
 // Fires, backs and restarts on a bench.
-use crate::nets::{MANY, SMALL, TWICE, joined, net_of, repeated};
 use bench::{Bench, Counts, Firing, measure};
+use cases::nets::{MANY, SMALL, TWICE, joined, net_of, repeated};
+use domain::Equal;
+use judge::Judge;
 use lent::list::LentList;
 use net::{CELLS, Net};
 use std::process::Abort;
@@ -33,7 +35,7 @@ fn make(bench: &mut Bench, call: Call) -> Result<(), Fault> {
 type Step = (Call, Result<(), Fault>, usize, u16);
 
 // Memory of a trail, before anything fires.
-pub const BLANK: Firing = Firing {
+const BLANK: Firing = Firing {
     transition: 0,
     mode: [0; 4],
 };
@@ -178,18 +180,27 @@ fn cells_of_a_bench(rt: HostRuntime) -> Result<(), Fail> {
     Ok(())
 }
 
-// Sending handsets and free channels together.
-fn channels(bench: &Bench) -> Result<u32, Fault> {
-    Ok(u32::from(bench.count(64)?) + u32::from(bench.count(65)?) + u32::from(bench.count(128)?))
+// The value of the marking on a bench, by the codes of a claim.
+fn value(codes: &[i32; CELLS], bench: &Bench) -> i64 {
+    let mut sum: i64 = 0;
+    for (cell, code) in codes.iter().enumerate() {
+        if *code != 0 {
+            let count = bench.count(cell).unwrap_or(0);
+            sum = sum.saturating_add(i64::from(*code).saturating_mul(i64::from(count)));
+        }
+    }
+    sum
 }
 
-// Makes random calls on a new bench, checks the value after each, and gives how many were carried out.
-fn check_random(rt: &impl Abort, net: &Net) -> u32 {
+// Makes random calls on a new bench, checks after each that a claim's value is `want`, and gives how many calls were
+// carried out.
+fn check_random(rt: &impl Abort, net: &Net, codes: &[i32; CELLS], want: i64) -> u32 {
     let mut cells = [7; CELLS];
     let mut memory = [BLANK; 32];
     let mut trail = LentList::new(&mut memory);
     let mut counts = Counts { cells: &mut cells };
     let mut bench = Bench::begin(net, &mut counts, &mut trail);
+    assert_eq!(rt; value(codes, &bench), want);
     let mut seed: u32 = 1;
     let mut carried: u32 = 0;
     for i in 0..1000 {
@@ -202,7 +213,7 @@ fn check_random(rt: &impl Abort, net: &Net) -> u32 {
         if make(&mut bench, call).is_ok() {
             carried = carried.saturating_add(1);
         }
-        assert_eq!(rt; channels(&bench), Ok(1), "{}", i);
+        assert_eq!(rt; value(codes, &bench), want, "{}", i);
     }
     carried
 }
@@ -211,7 +222,17 @@ fn check_random(rt: &impl Abort, net: &Net) -> u32 {
 fn a_thousand_random_calls_keep_the_value(rt: HostRuntime) -> Result<(), Fail> {
     let file = joined(rt.alloc(), &[SMALL])?;
     let net = net_of(rt.alloc(), file.as_slice())?;
-    let carried = check_random(&rt, &net);
+    let mut codes = [0; CELLS];
+    let mut before = [0; CELLS];
+    let mut after = [0; CELLS];
+    let mut judge = Judge {
+        net: &net,
+        codes: &mut codes,
+        before: &mut before,
+        after: &mut after,
+    };
+    assert_eq!(rt; judge.judge(0, &Equal), Ok(Ok(4)));
+    let carried = check_random(&rt, &net, &codes, 1);
     assert!(rt; 100 < carried && carried < 1000);
     Ok(())
 }

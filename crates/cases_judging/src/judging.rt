@@ -1,45 +1,13 @@
 // Verdicts, caps, and what lent memory holds after them.
-use crate::nets::{MANY, SMALL, TWICE, changed, joined, net_of, number, repeated};
-use domain::{Equal, Siphon};
-use judge::{Breach, Judge, Outcome};
+use crate::memory::{Lent, marked};
+use cases::nets::{SMALL, changed, joined, net_of, number};
+use judge::{Judge, Outcome};
 use lent::list::LentList;
 use net::{CELLS, Firing, Net, ReadError};
 use std::alloc::Global;
 use std::process::Abort;
 use std::test::Fail;
 use term::Fault;
-
-// Memory to judge in, 7 everywhere.
-#[derive(Drop)]
-struct Lent {
-    codes: [i32; CELLS],
-    before: [u32; CELLS],
-    after: [u32; CELLS],
-}
-
-impl Lent {
-    fn new() -> Lent {
-        Lent {
-            codes: [7; CELLS],
-            before: [7; CELLS],
-            after: [7; CELLS],
-        }
-    }
-
-    fn judge<'l>(&'l mut self, net: &'l Net) -> Judge<'l, 'l> {
-        let Lent {
-            codes,
-            before,
-            after,
-        } = self;
-        Judge {
-            net,
-            codes,
-            before,
-            after,
-        }
-    }
-}
 
 // A claim that breaks at a transition, in a mode.
 fn broken(transition: usize, mode: [u8; 4]) -> Outcome {
@@ -140,11 +108,6 @@ fn verdicts_by_kind(rt: HostRuntime) -> Result<(), Fail> {
     }
     let larger = changed(rt.alloc(), 1, 2, "40")?;
     check_answer(&rt, "a larger sort", rt.alloc(), larger.as_slice(), Ok(128))
-}
-
-// How many of the counts are not 0.
-fn marked(counts: &[u32]) -> usize {
-    counts.iter().filter(|count| **count != 0).count()
 }
 
 // The small net whose transition 1 keeps the channel, under a claim of each kind: whether it is accepted, the cap
@@ -296,9 +259,9 @@ fn a_survey_measures_first(rt: HostRuntime) -> Result<(), Fail> {
 }
 
 // A cap: a number, none for unbounded, or the number of a fault.
-type Cap = Result<Option<u64>, u8>;
+pub type Cap = Result<Option<u64>, u8>;
 
-fn cap_of(most: Result<Option<u64>, Fault>) -> Cap {
+pub fn cap_of(most: Result<Option<u64>, Fault>) -> Cap {
     most.map_err(|fault| fault.number())
 }
 
@@ -447,73 +410,5 @@ fn refusals_leave_the_memory(rt: HostRuntime) -> Result<(), Fail> {
             number,
         )?;
     }
-    Ok(())
-}
-
-#[test]
-fn under_a_given_domain(rt: HostRuntime) -> Result<(), Fail> {
-    let mut lent = Lent::new();
-    // a channel that is kept; the kind of the claim plays no part
-    let kept = changed(rt.alloc(), 63, 73, "0A050000")?;
-    let net = net_of(rt.alloc(), kept.as_slice())?;
-    let mut judge = lent.judge(&net);
-    match judge.judge(0, &Equal) {
-        Ok(
-            Err(
-                Breach {
-                    firing,
-                    before,
-                    after,
-                },
-            ),
-        ) => {
-            assert_eq!(rt;
-                (firing.transition, firing.mode, before, after),
-                (1, [0; 4], 1, 0)
-            )
-        }
-        _ => return Err(Fail::new("not broken")),
-    }
-    assert!(rt; matches!(judge.judge(0, &Siphon), Ok(Ok(4))));
-    assert_eq!(rt; cap_of(judge.cap(0, 64, &Siphon)), Ok(None));
-    assert_eq!(rt; cap_of(judge.cap(0, 64, &Equal)), Err(16));
-    // a code that is no weight of the domain
-    let two = changed(rt.alloc(), 73, 85, "0C0000FFFFFFFE")?;
-    let net = net_of(rt.alloc(), two.as_slice())?;
-    lent.before[3] = 9;
-    let mut judge = lent.judge(&net);
-    assert!(rt; matches!(judge.judge(0, &Siphon), Err(Fault::NoWeight)));
-    assert_eq!(rt; cap_of(judge.cap(0, 0, &Siphon)), Err(14));
-    assert_eq!(rt; cap_of(judge.cap(0, 0, &Equal)), Err(15));
-    assert_eq!(rt; (lent.codes[0], lent.codes[1], lent.before[3]), (-2, 0, 9));
-    Ok(())
-}
-
-#[test]
-fn many_tokens_weigh_exactly(rt: HostRuntime) -> Result<(), Fail> {
-    // 257 times 255 tokens are put, of the least weight
-    let file = repeated(
-        rt.alloc(),
-        MANY,
-        TWICE,
-        127,
-        "0900 32 3300210100 32 3300210100 3300210100 0A010000 0B00FFF0BDC0 0F",
-    )?;
-    let net = net_of(rt.alloc(), file.as_slice())?;
-    let mut lent = Lent::new();
-    let mut judge = lent.judge(&net);
-    match judge.judge(0, &Equal) {
-        Ok(
-            Err(
-                Breach {
-                    firing,
-                    before,
-                    after,
-                },
-            ),
-        ) => { assert_eq!(rt; (firing.transition, before, after), (0, 0, -65_535_000_000)) }
-        _ => return Err(Fail::new("not broken")),
-    }
-    assert_eq!(rt; (marked(&lent.before), lent.after[0]), (0, 65535));
     Ok(())
 }
