@@ -53,7 +53,7 @@ fn check_steps(rt: &impl Abort, at: &str, net: &Net, room: usize, steps: &[Step]
     }
 }
 
-const STEPS: [Step; 21] = [
+const STEPS: &[Step] = &[
     (Fire(0, [0, 0, 0, 0]), Ok(()), 64, 1),
     (Fire(0, [1, 0, 0, 0]), Err(Fault::Lacks(128)), 65, 0),
     (Fire(0, [0, 0, 0, 0]), Err(Fault::Lacks(0)), 64, 1),
@@ -78,12 +78,12 @@ const STEPS: [Step; 21] = [
 ];
 
 // Without room on the trail, and with room for one.
-const NO_ROOM: [Step; 2] = [
+const NO_ROOM: &[Step] = &[
     (Fire(0, [0, 0, 0, 0]), Err(Fault::TrailFull), 0, 1),
     (Fire(1, [0, 0, 0, 0]), Err(Fault::Lacks(64)), 0, 1),
 ];
 
-const ROOM_FOR_ONE: [Step; 5] = [
+const ROOM_FOR_ONE: &[Step] = &[
     (Fire(0, [0, 0, 0, 0]), Ok(()), 64, 1),
     (Fire(1, [0, 0, 0, 0]), Err(Fault::TrailFull), 64, 1),
     (Fire(0, [1, 0, 0, 0]), Err(Fault::Lacks(128)), 64, 1),
@@ -95,9 +95,9 @@ const ROOM_FOR_ONE: [Step; 5] = [
 fn calls_on_the_small_net(rt: HostRuntime) -> Result<(), Fail> {
     let file = joined(rt.alloc(), &[SMALL])?;
     let net = net_of(rt.alloc(), file.as_slice())?;
-    check_steps(&rt, "the small net", &net, 8, &STEPS);
-    check_steps(&rt, "no room", &net, 0, &NO_ROOM);
-    check_steps(&rt, "room for one", &net, 1, &ROOM_FOR_ONE);
+    check_steps(&rt, "the small net", &net, 8, STEPS);
+    check_steps(&rt, "no room", &net, 0, NO_ROOM);
+    check_steps(&rt, "room for one", &net, 1, ROOM_FOR_ONE);
     Ok(())
 }
 
@@ -111,7 +111,7 @@ const NEARLY_FULL: &str = "0101 0401 0401 050000FFFE 0501000001
     060200000000 072423002000 2001
     0F";
 
-const FULL: [Step; 11] = [
+const FULL: &[Step] = &[
     (Fire(0, [0, 0, 0, 0]), Ok(()), 0, 65535),
     (Fire(0, [0, 0, 0, 0]), Err(Fault::Full(0)), 0, 65535),
     (Fire(1, [0, 0, 0, 0]), Ok(()), 0, 65535),
@@ -126,7 +126,7 @@ const FULL: [Step; 11] = [
 ];
 
 // A firing that puts 65,535 tokens at once.
-const AT_ONCE: [Step; 4] = [
+const AT_ONCE: &[Step] = &[
     (Fire(0, [0, 0, 0, 0]), Ok(()), 0, 65535),
     (Fire(0, [0, 0, 0, 0]), Err(Fault::Full(0)), 0, 65535),
     (Back, Ok(()), 0, 0),
@@ -137,7 +137,7 @@ const AT_ONCE: [Step; 4] = [
 fn full_cells_and_guards(rt: HostRuntime) -> Result<(), Fail> {
     let file = joined(rt.alloc(), &[NEARLY_FULL])?;
     let net = net_of(rt.alloc(), file.as_slice())?;
-    check_steps(&rt, "nearly full", &net, 8, &FULL);
+    check_steps(&rt, "nearly full", &net, 8, FULL);
     let file = repeated(
         rt.alloc(),
         MANY,
@@ -146,7 +146,7 @@ fn full_cells_and_guards(rt: HostRuntime) -> Result<(), Fail> {
         "0900 32 3300210100 32 3300210100 3300210100 0F",
     )?;
     let net = net_of(rt.alloc(), file.as_slice())?;
-    check_steps(&rt, "at once", &net, 8, &AT_ONCE);
+    check_steps(&rt, "at once", &net, 8, AT_ONCE);
     Ok(())
 }
 

@@ -30,7 +30,7 @@ fn check_answer(
 }
 
 // Nets, and the verdict of claim 0.
-const VERDICTS: [(&str, Result<u32, (usize, [u8; 4])>); 16] = [
+const VERDICTS: &[(&str, Result<u32, (usize, [u8; 4])>)] = &[
     (SMALL, Ok(4)),
     // x is taken and its neighbours in a chain of three are put: as equal, never rises and never falls
     (
@@ -101,7 +101,7 @@ const VERDICTS: [(&str, Result<u32, (usize, [u8; 4])>); 16] = [
 
 #[test]
 fn verdicts_by_kind(rt: HostRuntime) -> Result<(), Fail> {
-    for (file, want) in VERDICTS {
+    for &(file, want) in VERDICTS {
         let bytes = joined(rt.alloc(), &[file])?;
         let want = want.map_err(|(transition, mode)| Firing { transition, mode });
         check_answer(&rt, file, rt.alloc(), bytes.as_slice(), want)?;
@@ -112,7 +112,7 @@ fn verdicts_by_kind(rt: HostRuntime) -> Result<(), Fail> {
 
 // The small net whose transition 1 keeps the channel, under a claim of each kind: whether it is accepted, the cap
 // of cell 64, and how many of the lent counts are not 0 after asking for that cap, where all were 7 before.
-const KINDS: [(&str, bool, Cap, usize); 6] = [
+const KINDS: &[(&str, bool, Cap, usize)] = &[
     ("0A010000", false, Err(16), 1),
     ("0A020000", true, Ok(Some(1)), 0),
     ("0A030000", false, Err(15), 1024),
@@ -123,7 +123,7 @@ const KINDS: [(&str, bool, Cap, usize); 6] = [
 
 #[test]
 fn caps_of_a_channel_that_is_kept(rt: HostRuntime) -> Result<(), Fail> {
-    for (claim, _, want, counts) in KINDS {
+    for &(claim, _, want, counts) in KINDS {
         let file = changed(rt.alloc(), 63, 73, claim)?;
         let net = net_of(rt.alloc(), file.as_slice())?;
         let mut lent = Lent::new();
@@ -142,7 +142,7 @@ fn caps_of_a_channel_that_is_kept(rt: HostRuntime) -> Result<(), Fail> {
 
 #[test]
 fn a_channel_that_is_kept(rt: HostRuntime) -> Result<(), Fail> {
-    for (claim, accepted, _, _) in KINDS {
+    for &(claim, accepted, _, _) in KINDS {
         let file = changed(rt.alloc(), 63, 73, claim)?;
         let net = net_of(rt.alloc(), file.as_slice())?;
         let mut lent = Lent::new();
@@ -194,7 +194,7 @@ const TAKES_AND_RETURNS: &str = "0101 0401 0401 060000000000 080031210100 090031
     0A010000 0B0100000001
     0F";
 
-const RETURNS: [bool; 7] = [true, true, false, true, true, true, false];
+const RETURNS: &[bool] = &[true, true, false, true, true, true, false];
 
 #[test]
 fn siphons_and_traps_in_a_survey(rt: HostRuntime) -> Result<(), Fail> {
@@ -274,7 +274,7 @@ fn first_cap(heap: Global, file: &[u8], cell: usize) -> Result<Cap, ReadError> {
 }
 
 // The small net with the bytes from one place up to 73 replaced, a cell, and its cap.
-const SMALL_CAPS: [(usize, &str, usize, Cap); 17] = [
+const SMALL_CAPS: &[(usize, &str, usize, Cap)] = &[
     (69, "0A010000", 64, Ok(Some(1))),
     (69, "0A010000", 128, Ok(Some(1))),
     (69, "0A010000", 0, Ok(None)),
@@ -296,7 +296,7 @@ const SMALL_CAPS: [(usize, &str, usize, Cap); 17] = [
 ];
 
 // Other nets, a cell, and its cap.
-const CAPS: [(&str, usize, Cap); 8] = [
+const CAPS: &[(&str, usize, Cap)] = &[
     (
         "0101 0401 0401 0500000007 0A010000 0B0000000001 0B0100000002 0F",
         64,
@@ -330,7 +330,7 @@ const CAPS: [(&str, usize, Cap); 8] = [
 
 #[test]
 fn caps_by_kind(rt: HostRuntime) -> Result<(), Fail> {
-    for (from, with, cell, want) in SMALL_CAPS {
+    for &(from, with, cell, want) in SMALL_CAPS {
         let file = changed(rt.alloc(), from, 73, with)?;
         assert_eq!(rt;
             first_cap(rt.alloc(), file.as_slice(), cell)?,
@@ -338,7 +338,7 @@ fn caps_by_kind(rt: HostRuntime) -> Result<(), Fail> {
             "{with} {cell}"
         );
     }
-    for (file, cell, want) in CAPS {
+    for &(file, cell, want) in CAPS {
         let bytes = joined(rt.alloc(), &[file])?;
         assert_eq!(rt;
             first_cap(rt.alloc(), bytes.as_slice(), cell)?,
@@ -350,7 +350,7 @@ fn caps_by_kind(rt: HostRuntime) -> Result<(), Fail> {
 }
 
 // A claim and a cell of the small net, the lengths of the memory, and the fault that a cap and a verdict give.
-const REFUSALS: [(usize, usize, [usize; 3], u8); 7] = [
+const REFUSALS: &[(usize, usize, [usize; 3], u8)] = &[
     (0, 0, [1023, 1024, 1024], 11),
     (0, 0, [1024, 1025, 1024], 11),
     (0, 0, [1024, 1024, 0], 11),
@@ -399,7 +399,7 @@ fn check_refused(
 fn refusals_leave_the_memory(rt: HostRuntime) -> Result<(), Fail> {
     let small = joined(rt.alloc(), &[SMALL])?;
     let net = net_of(rt.alloc(), small.as_slice())?;
-    for (claim, cell, lengths, number) in REFUSALS {
+    for &(claim, cell, lengths, number) in REFUSALS {
         check_refused(
             &rt,
             format!(in rt.alloc(); "{claim} {cell} {number}")?.as_str(),
