@@ -1,9 +1,6 @@
-// Examples of claims and caps, with their exact answers.
+// Examples of claims, with their exact answers.
 #![tactic(auto)]
 
 #[cfg(test)]
-mod domains;
-#[cfg(test)]
 mod judging;
-#[cfg(test)]
-mod memory;
+pub mod memory;

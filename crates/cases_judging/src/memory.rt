@@ -1,6 +1,7 @@
-// Memory that the examples lend.
+// Memory that the examples lend, and what they ask of it.
 use judge::Judge;
 use net::{CELLS, Net};
+use term::Fault;
 
 // Memory to judge in, 7 everywhere.
 #[derive(Drop)]
@@ -37,4 +38,11 @@ impl Lent {
 // How many of the counts are not 0.
 pub fn marked(counts: &[u32]) -> usize {
     counts.iter().filter(|count| **count != 0).count()
+}
+
+// A cap: a number, none for unbounded, or the number of a fault.
+pub type Cap = Result<Option<u64>, u8>;
+
+pub fn cap_of(most: Result<Option<u64>, Fault>) -> Cap {
+    most.map_err(|fault| fault.number())
 }
