@@ -102,6 +102,20 @@ fn heights(before: u32, after: u32) -> Verdict<Height> {
     broken(0, Height { metres: before }, Height { metres: after })
 }
 
+// `SPLITS` with two tokens at a height of 5: what is no higher is unbounded, of what is higher there is none.
+const STANDS: &str = "0101 03010103 0401 0401 0500000002 060000000000 080131210100 09003300210100
+    0A010000 0B0000000005 0B0100000009 0F";
+
+#[test]
+fn caps_by_the_greatest_height(rt: HostRuntime) -> Result<(), Fail> {
+    let stands = joined(rt.alloc(), &[STANDS])?;
+    let net = net_of(rt.alloc(), stands.as_slice())?;
+    check_cap(&rt, &net, 0, &Greatest, Ok(None));
+    check_cap(&rt, &net, 64, &Greatest, Ok(Some(0)));
+    check_cap(&rt, &net, 0, &NeverRises, Err(16));
+    Ok(())
+}
+
 #[test]
 fn a_greatest_height_that_falls(rt: HostRuntime) -> Result<(), Fail> {
     let splits = joined(rt.alloc(), &[SPLITS])?;
