@@ -1,6 +1,6 @@
 // Replays of traces.
-use crate::firing::BLANK;
-use crate::nets::{SMALL, joined, net_of, repeated};
+use bench::Firing;
+use cases::nets::{SMALL, joined, net_of, repeated};
 use lent::list::LentList;
 use net::{CELLS, Net};
 use std::alloc::Global;
@@ -8,6 +8,12 @@ use std::process::Abort;
 use std::test::Fail;
 use term::Fault;
 use trace::{Replayed, replay};
+
+// Memory of a trail, before anything fires.
+const BLANK: Firing = Firing {
+    transition: 0,
+    mode: [0; 4],
+};
 
 // How many commands were carried out, and the number and the place of the fault, both 0 where the replay is done.
 type Ended = (u32, u8, usize);
@@ -52,7 +58,7 @@ pub const QUIET: [u16; 4] = [1, 1, 0, 1];
 pub const SENDING: [u16; 4] = [0, 1, 1, 0];
 
 // Traces on the small net.
-const TRACES: [(&str, Left); 24] = [
+const TRACES: &[(&str, Left)] = &[
     ("", ((0, 2, 0), 0, QUIET)),
     ("4F", ((0, 0, 0), 0, QUIET)),
     ("400000000000 4F", ((1, 0, 0), 1, SENDING)),
@@ -83,7 +89,7 @@ const TRACES: [(&str, Left); 24] = [
 fn replays_on_the_small_net(rt: HostRuntime) -> Result<(), Fail> {
     let file = joined(rt.alloc(), &[SMALL])?;
     let net = net_of(rt.alloc(), file.as_slice())?;
-    for (text, want) in TRACES {
+    for &(text, want) in TRACES {
         let bytes = joined(rt.alloc(), &[text])?;
         check_replay(&rt, text, rt.alloc(), &net, bytes.as_slice(), want)?;
     }
@@ -91,7 +97,7 @@ fn replays_on_the_small_net(rt: HostRuntime) -> Result<(), Fail> {
 }
 
 // Long traces: a head, some bytes so many times, and a tail.
-const LONG: [(&str, &str, usize, &str, Left); 6] = [
+const LONG: &[(&str, &str, usize, &str, Left)] = &[
     // as long as may be, and one longer: nothing is carried out
     ("", "42", 65535, "4F", ((65535, 0, 0), 0, QUIET)),
     ("400000000000", "42", 65530, "4F", ((0, 1, 65536), 0, QUIET)),
@@ -124,7 +130,7 @@ const LONG: [(&str, &str, usize, &str, Left); 6] = [
 fn long_traces(rt: HostRuntime) -> Result<(), Fail> {
     let file = joined(rt.alloc(), &[SMALL])?;
     let net = net_of(rt.alloc(), file.as_slice())?;
-    for (head, unit, times, tail, want) in LONG {
+    for &(head, unit, times, tail, want) in LONG {
         let bytes = repeated(rt.alloc(), head, unit, times, tail)?;
         check_replay(&rt, tail, rt.alloc(), &net, bytes.as_slice(), want)?;
     }

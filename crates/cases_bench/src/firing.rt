@@ -1,6 +1,8 @@
 // Fires, backs and restarts on a bench.
-use crate::nets::{MANY, SMALL, TWICE, joined, net_of, repeated};
 use bench::{Bench, Counts, Firing, measure};
+use cases::nets::{MANY, SMALL, TWICE, joined, net_of, repeated};
+use domain::Equal;
+use judge::Judge;
 use lent::list::LentList;
 use net::{CELLS, Net};
 use std::process::Abort;
@@ -33,7 +35,7 @@ fn make(bench: &mut Bench, call: Call) -> Result<(), Fault> {
 type Step = (Call, Result<(), Fault>, usize, u16);
 
 // Memory of a trail, before anything fires.
-pub const BLANK: Firing = Firing {
+const BLANK: Firing = Firing {
     transition: 0,
     mode: [0; 4],
 };
@@ -51,7 +53,7 @@ fn check_steps(rt: &impl Abort, at: &str, net: &Net, room: usize, steps: &[Step]
     }
 }
 
-const STEPS: [Step; 21] = [
+const STEPS: &[Step] = &[
     (Fire(0, [0, 0, 0, 0]), Ok(()), 64, 1),
     (Fire(0, [1, 0, 0, 0]), Err(Fault::Lacks(128)), 65, 0),
     (Fire(0, [0, 0, 0, 0]), Err(Fault::Lacks(0)), 64, 1),
@@ -76,12 +78,12 @@ const STEPS: [Step; 21] = [
 ];
 
 // Without room on the trail, and with room for one.
-const NO_ROOM: [Step; 2] = [
+const NO_ROOM: &[Step] = &[
     (Fire(0, [0, 0, 0, 0]), Err(Fault::TrailFull), 0, 1),
     (Fire(1, [0, 0, 0, 0]), Err(Fault::Lacks(64)), 0, 1),
 ];
 
-const ROOM_FOR_ONE: [Step; 5] = [
+const ROOM_FOR_ONE: &[Step] = &[
     (Fire(0, [0, 0, 0, 0]), Ok(()), 64, 1),
     (Fire(1, [0, 0, 0, 0]), Err(Fault::TrailFull), 64, 1),
     (Fire(0, [1, 0, 0, 0]), Err(Fault::Lacks(128)), 64, 1),
@@ -93,9 +95,9 @@ const ROOM_FOR_ONE: [Step; 5] = [
 fn calls_on_the_small_net(rt: HostRuntime) -> Result<(), Fail> {
     let file = joined(rt.alloc(), &[SMALL])?;
     let net = net_of(rt.alloc(), file.as_slice())?;
-    check_steps(&rt, "the small net", &net, 8, &STEPS);
-    check_steps(&rt, "no room", &net, 0, &NO_ROOM);
-    check_steps(&rt, "room for one", &net, 1, &ROOM_FOR_ONE);
+    check_steps(&rt, "the small net", &net, 8, STEPS);
+    check_steps(&rt, "no room", &net, 0, NO_ROOM);
+    check_steps(&rt, "room for one", &net, 1, ROOM_FOR_ONE);
     Ok(())
 }
 
@@ -109,7 +111,7 @@ const NEARLY_FULL: &str = "0101 0401 0401 050000FFFE 0501000001
     060200000000 072423002000 2001
     0F";
 
-const FULL: [Step; 11] = [
+const FULL: &[Step] = &[
     (Fire(0, [0, 0, 0, 0]), Ok(()), 0, 65535),
     (Fire(0, [0, 0, 0, 0]), Err(Fault::Full(0)), 0, 65535),
     (Fire(1, [0, 0, 0, 0]), Ok(()), 0, 65535),
@@ -124,7 +126,7 @@ const FULL: [Step; 11] = [
 ];
 
 // A firing that puts 65,535 tokens at once.
-const AT_ONCE: [Step; 4] = [
+const AT_ONCE: &[Step] = &[
     (Fire(0, [0, 0, 0, 0]), Ok(()), 0, 65535),
     (Fire(0, [0, 0, 0, 0]), Err(Fault::Full(0)), 0, 65535),
     (Back, Ok(()), 0, 0),
@@ -135,7 +137,7 @@ const AT_ONCE: [Step; 4] = [
 fn full_cells_and_guards(rt: HostRuntime) -> Result<(), Fail> {
     let file = joined(rt.alloc(), &[NEARLY_FULL])?;
     let net = net_of(rt.alloc(), file.as_slice())?;
-    check_steps(&rt, "nearly full", &net, 8, &FULL);
+    check_steps(&rt, "nearly full", &net, 8, FULL);
     let file = repeated(
         rt.alloc(),
         MANY,
@@ -144,7 +146,7 @@ fn full_cells_and_guards(rt: HostRuntime) -> Result<(), Fail> {
         "0900 32 3300210100 32 3300210100 3300210100 0F",
     )?;
     let net = net_of(rt.alloc(), file.as_slice())?;
-    check_steps(&rt, "at once", &net, 8, &AT_ONCE);
+    check_steps(&rt, "at once", &net, 8, AT_ONCE);
     Ok(())
 }
 
@@ -178,18 +180,27 @@ fn cells_of_a_bench(rt: HostRuntime) -> Result<(), Fail> {
     Ok(())
 }
 
-// Sending handsets and free channels together.
-fn channels(bench: &Bench) -> Result<u32, Fault> {
-    Ok(u32::from(bench.count(64)?) + u32::from(bench.count(65)?) + u32::from(bench.count(128)?))
+// The value of the marking on a bench, by the codes of a claim.
+fn value(codes: &[i32; CELLS], bench: &Bench) -> i64 {
+    let mut sum: i64 = 0;
+    for (cell, code) in codes.iter().enumerate() {
+        if *code != 0 {
+            let count = bench.count(cell).unwrap_or(0);
+            sum = sum.saturating_add(i64::from(*code).saturating_mul(i64::from(count)));
+        }
+    }
+    sum
 }
 
-// Makes random calls on a new bench, checks the value after each, and gives how many were carried out.
-fn check_random(rt: &impl Abort, net: &Net) -> u32 {
+// Makes random calls on a new bench, checks after each that a claim's value is `want`, and gives how many calls were
+// carried out.
+fn check_random(rt: &impl Abort, net: &Net, codes: &[i32; CELLS], want: i64) -> u32 {
     let mut cells = [7; CELLS];
     let mut memory = [BLANK; 32];
     let mut trail = LentList::new(&mut memory);
     let mut counts = Counts { cells: &mut cells };
     let mut bench = Bench::begin(net, &mut counts, &mut trail);
+    assert_eq!(rt; value(codes, &bench), want);
     let mut seed: u32 = 1;
     let mut carried: u32 = 0;
     for i in 0..1000 {
@@ -202,7 +213,7 @@ fn check_random(rt: &impl Abort, net: &Net) -> u32 {
         if make(&mut bench, call).is_ok() {
             carried = carried.saturating_add(1);
         }
-        assert_eq!(rt; channels(&bench), Ok(1), "{}", i);
+        assert_eq!(rt; value(codes, &bench), want, "{}", i);
     }
     carried
 }
@@ -211,7 +222,17 @@ fn check_random(rt: &impl Abort, net: &Net) -> u32 {
 fn a_thousand_random_calls_keep_the_value(rt: HostRuntime) -> Result<(), Fail> {
     let file = joined(rt.alloc(), &[SMALL])?;
     let net = net_of(rt.alloc(), file.as_slice())?;
-    let carried = check_random(&rt, &net);
+    let mut codes = [0; CELLS];
+    let mut before = [0; CELLS];
+    let mut after = [0; CELLS];
+    let mut judge = Judge {
+        net: &net,
+        codes: &mut codes,
+        before: &mut before,
+        after: &mut after,
+    };
+    assert_eq!(rt; judge.judge(0, &Equal), Ok(Ok(4)));
+    let carried = check_random(&rt, &net, &codes, 1);
     assert!(rt; 100 < carried && carried < 1000);
     Ok(())
 }

@@ -1,6 +1,6 @@
 // Recordings: what they write, where they are full, and what their traces do.
-use crate::nets::{SMALL, joined, net_of, number};
 use crate::traces::{Left, QUIET, SENDING, check_replay};
+use cases::nets::{SMALL, joined, net_of, number};
 use std::process::Abort;
 use std::test::Fail;
 use term::Fault;
@@ -160,7 +160,7 @@ fn a_recording_ends_at_65536_bytes(rt: HostRuntime) -> Result<(), Fail> {
 }
 
 // Commands to record, and what their replay on the small net leaves.
-const ROUND_TRIPS: [(&[(Command, u8)], Left); 5] = [
+const ROUND_TRIPS: &[(&[(Command, u8)], Left)] = &[
     (&[], ((0, 0, 0), 0, QUIET)),
     (
         &[(FIRE, 0), (STOP, 0), (Command::Back, 0)],
@@ -184,7 +184,7 @@ const ROUND_TRIPS: [(&[(Command, u8)], Left); 5] = [
 fn recordings_replayed(rt: HostRuntime) -> Result<(), Fail> {
     let file = joined(rt.alloc(), &[SMALL])?;
     let net = net_of(rt.alloc(), file.as_slice())?;
-    for (commands, want) in ROUND_TRIPS {
+    for &(commands, want) in ROUND_TRIPS {
         let mut memory = [0xAA; 32];
         let ended = recorded(&rt, &mut memory, commands)?;
         let bytes = traced(&ended, &memory)?;
