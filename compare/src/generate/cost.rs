@@ -184,7 +184,7 @@ fn read(group: &'static str, draft: &Draft) -> Measured {
     Measured {
         group,
         name: format!("{group}-{}", draft.length()),
-        runs: 200,
+        runs: 1000,
         numbers: vec![("bytes", draft.length())],
         case: without_trace(draft),
     }
