@@ -1,9 +1,10 @@
 // A domain of a caller's own, and examples of every domain.
 #![tactic(auto)]
 
-ghost use Rattle.std.specs.Prelude.{◌≡◌, ◌≤◌, length};
+ghost use Rattle.std.specs.Prelude.{◌≡◌, ◌*◌, ◌≤◌, length};
+ghost use Rattle.domain.specs.Meaning.{largest_sum, largest_weight};
 ghost use Rattle.domain_tests.specs.Greatest.{greatest};
-ghost use Rattle.domain_tests.specs.Total.{total_of};
+ghost use Rattle.domain_tests.specs.Total.{running_of, total_of};
 ghost use Rattle.domain_tests.specs.Heights.{greatest_laws};
 
 use domain::{WeightDomain, add_weight};
@@ -52,9 +53,11 @@ impl WeightDomain for Greatest {
     }
 }
 
-// The sum of one weight for each code, in any domain; it is exact for as many as 10,000 codes.
+// The sum of one weight for each code, in any domain; it is exact while there is room for as many of the largest
+// weights, which are ten thousand million.
 pub fn total<D: WeightDomain>(d: &D, codes: &[i32]) -> D::Value
-    ensures { length codes.now ≤ 10000 → result ≡ total_of (D.meaning d.now) codes.now }
+    ensures running { result ≡ running_of (D.meaning d.now) codes.now }
+    ensures exact { length codes.now * largest_weight ≤ largest_sum → result ≡ total_of (D.meaning d.now) codes.now }
 {
     let mut sum = d.zero();
     for code in codes {
