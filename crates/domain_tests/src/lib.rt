@@ -1,10 +1,11 @@
 // A domain of a caller's own, and examples of every domain.
 #![tactic(auto)]
 
-ghost use Rattle.std.specs.Prelude.{◌≡◌, ◌≤◌, length};
+ghost use Rattle.std.specs.Prelude.{◌≡◌, ◌*◌, ◌≤◌, length};
+ghost use Rattle.domain.specs.Meaning.{largest_sum, largest_weight};
 ghost use Rattle.domain_tests.specs.Greatest.{greatest};
-ghost use Rattle.domain_tests.specs.Total.{total_of};
 ghost use Rattle.domain_tests.specs.Heights.{greatest_laws, greatest_plain};
+ghost use Rattle.domain_tests.specs.Total.{running_of, total_of};
 
 use domain::{Measuring, WeightDomain, add_weight};
 
@@ -39,6 +40,7 @@ impl WeightDomain for Greatest {
         Height { metres: 0 }
     }
 
+    #[tactic(auto, using(crate::specs::Heights::added))]
     fn add_copies(&self, v: &Height, n: u32, w: &Height) -> Height {
         if n > 0 && v.metres < w.metres {
             Height { metres: w.metres }
@@ -67,9 +69,11 @@ impl Measuring for Greatest {
     }
 }
 
-// The sum of one weight for each code, in any domain; it is exact for as many as 10,000 codes.
+// The sum of one weight for each code, in any domain; it is exact while there is room for as many of the largest
+// weights, which are ten thousand million.
 pub fn total<D: WeightDomain>(d: &D, codes: &[i32]) -> D::Value
-    ensures { length codes.now ≤ 10000 → result ≡ total_of (D.meaning d.now) codes.now }
+    ensures running { result ≡ running_of (D.meaning d.now) codes.now }
+    ensures exact { length codes.now * largest_weight ≤ largest_sum → result ≡ total_of (D.meaning d.now) codes.now }
 {
     let mut sum = d.zero();
     for code in codes {
