@@ -31,11 +31,12 @@ impl<'s> Evaluator<'s> {
         if depth == 0 {
             return 0;
         }
+        // a variable is looked at before the others, since it keeps nothing on the stack
+        if let [0x20, v, rest @ ..] = *bytes {
+            *bytes = rest;
+            return at(self.mode, *v as usize);
+        }
         match *bytes {
-            [0x20, v, rest @ ..] => {
-                *bytes = rest;
-                at(self.mode, *v as usize)
-            }
             [0x21, _, element, rest @ ..] => {
                 *bytes = rest;
                 *element

@@ -84,22 +84,22 @@ returns-in-Two t c =
     (record { value = c.result-in-Two.ensures ∙ ap (λ o. result_of s o c.next-a-in-Two.result c.next-b-in-Two.result) is ∙ same_two (result_of s (op_of s k)) _ _ _ _ q.0 q.1; rest = q.2 })
 
 -- no term begins here: too few bytes, or no code
-pub returns-in_default : goal.returns-in_default
-returns-in_default t c =
+pub returns-in_default-bytes : goal.returns-in_default-bytes
+returns-in_default-bytes t c =
     rw (at_nothing (of c.args.self.now.signature) c.args.depth c.args.bytes.now.now (omega arith) (grind (arith, nat_tests)) (grind (arith, nat_tests)) (grind (arith, nat_tests)) (grind (arith, nat_tests)) (grind (arith, nat_tests)) (grind (arith, nat_tests)))
     (record { value = refl; rest = refl })
 
-pub returns-in_default-2 : goal.returns-in_default-2
-returns-in_default-2 t c =
+pub returns-in_default-bytes-2 : goal.returns-in_default-bytes-2
+returns-in_default-bytes-2 t c =
     rw (at_nothing (of c.args.self.now.signature) c.args.depth c.args.bytes.now.now (omega arith) (grind (arith, nat_tests)) (grind (arith, nat_tests)) (grind (arith, nat_tests)) (grind (arith, nat_tests)) (grind (arith, nat_tests)) (grind (arith, nat_tests)))
     (record { value = refl; rest = refl })
 
-pub returns-in_default-3 : goal.returns-in_default-3
-returns-in_default-3 t c =
+pub returns-in_default-bytes-3 : goal.returns-in_default-bytes-3
+returns-in_default-bytes-3 t c =
     rw (at_nothing (of c.args.self.now.signature) c.args.depth c.args.bytes.now.now (omega arith) (grind (arith, nat_tests)) (grind (arith, nat_tests)) (grind (arith, nat_tests)) (grind (arith, nat_tests)) (grind (arith, nat_tests)) (grind (arith, nat_tests)))
     (record { value = refl; rest = refl })
 
-pub returns-in_default-4 : goal.returns-in_default-4
-returns-in_default-4 t c =
+pub returns-in_default-bytes-4 : goal.returns-in_default-bytes-4
+returns-in_default-bytes-4 t c =
     rw (at_nothing (of c.args.self.now.signature) c.args.depth c.args.bytes.now.now (omega arith) (grind (arith, nat_tests)) (grind (arith, nat_tests)) (grind (arith, nat_tests)) (grind (arith, nat_tests)) (grind (arith, nat_tests)) (grind (arith, nat_tests)))
     (record { value = refl; rest = refl })
