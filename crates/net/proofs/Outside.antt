@@ -1,7 +1,6 @@
 -- In a mode, the arcs of a transition put and take nothing where the net has no cell.
 use Rattle.std.proofs.Common.{◌≡◌, ℕ, zero, suc, ◌-◌, ◌*◌, ◌/◌, ◌%◌, ◌<◌, ◌≤◌, ltb, leb, List, [], ◌∷◌, length, get_or, refl, ap, ◌∙◌, ⊎_elim, arith, leb-true, lt-ltb}
 use Rattle.std.specs.List.{All}
-use Rattle.std.proofs.lemmas.List.{get_or_past}
 use Rattle.std.proofs.lemmas.List.Sums.{sum_by-cons}
 use Rattle.std.proofs.lemmas.Bool.{cases_lt, cond_both, cond-true}
 use Rattle.format.specs.Format.{place_size, size_of, variable_size, variable_sizes}
@@ -12,6 +11,7 @@ use Rattle.net.specs.Nets.{HasCell, Mode, arcs_of, depth, part, side, transition
 use Rattle.net.specs.Sound.{Sound, SoundArc, SoundTransition}
 use Rattle.net.specs.Spans.{Arc}
 use Rattle.net.specs.System.{SystemNet, Transition, no_transition}
+use Rattle.net.proofs.Anywhere.{anywhere}
 use Rattle.net.proofs.Below as below
 use Rattle.net.proofs.Bounds.{rest_all}
 
@@ -28,7 +28,7 @@ sized sizes k sorts = four_cases (λ v. get_or (variable_sizes sizes k sorts) v 
 
 module _ (n : SystemNet) (sound : Sound n) (m : List ℕ) (c : ℕ) (in-all : c < 1024) (lacks : HasCell n c → ⊥) where
   small : (k : ℕ) → size n.sig k ≤ 64
-  small k = ⊎_elim (λ (h : k < length n.sig.sizes). sound.sizes k 0 h) (λ (h : length n.sig.sizes ≤ k). let e = get_or_past n.sig.sizes k 0 h in omega arith) (cases_lt k (length n.sig.sizes))
+  small = anywhere (λ j. j ≤ 64) n.sig.sizes 0 sound.sizes (omega arith)
 
   -- what is no cell is outside the sort of every place
   outside_place : (p : ℕ) → p < length n.places → 64 * p ≤ c → size n.sig (get_or n.places p 0) ≤ c - 64 * p

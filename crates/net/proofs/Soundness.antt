@@ -19,7 +19,7 @@ use Rattle.net.specs.Sound.{Bytes, Sound, bytes_of}
 use Rattle.net.specs.System.{SystemNet}
 use Rattle.net.proofs.Built.{Built, add_arc, add_bag_operation, add_claim, add_element_weight, add_guard, add_operation, add_place, add_place_weight, add_sort, add_tokens, add_transition}
 use Rattle.net.proofs.Cells.{alike, cell}
-use Rattle.net.proofs.Moves.{arc_bytes, fresh_bytes, guard_bytes}
+use Rattle.net.proofs.Moves.{arc_bytes, bare_bytes, guard_bytes}
 use Rattle.net.proofs.Operands.{Heard, Holds, Taken, heard_bag_operation, heard_claim, heard_element_weight, heard_end, heard_guard, heard_in, heard_operation, heard_out, heard_place, heard_place_weight, heard_sort, heard_tokens, heard_transition, taken, text}
 use Rattle.net.proofs.Stages.{after_arc, after_claim, after_guard, after_operations, after_places, after_sorts, after_transitions, after_weight}
 
@@ -68,7 +68,7 @@ room n (operation k a b c t) bs r h l = omega arith
 room n (bag_operation a b t) bs r h l = omega arith
 room n (place s) bs r h l = omega arith
 room n (tokens p e k) bs r h l = omega arith
-room n (transition v) bs r h l = let e = fresh_bytes n.sig.sizes n.transitions v in omega arith
+room n (transition v) bs r h l = let e = bare_bytes n.sig.sizes n.transitions v in omega arith
 room n (guard t) bs r h l = let e = guard_bytes n.transitions t in omega arith
 room n (arc d p t) bs r h l = let e = arc_bytes n.transitions d (record { place = p; bag = t }) in omega arith
 room n (claim k m) bs r h l = omega arith

@@ -14,8 +14,8 @@ impl Transition {
         ensures { map arc_told result.now ≡ towards direction (transition_told self.now).takes (transition_told self.now).puts }
     {
         match direction {
-            Direction::In => self.takes.arcs.as_slice(),
-            Direction::Out => self.puts.arcs.as_slice(),
+            Direction::In => self.takes.as_slice(),
+            Direction::Out => self.puts.as_slice(),
         }
     }
 }

@@ -5,11 +5,11 @@ ghost use Rattle.term.specs.Meaning.{of};
 ghost use Rattle.format.specs.Commands.{arc, arity, bag_operation, claim, element_weight, first, guard, operation, place_weight, said_of, second, tokens, transition};
 ghost use Rattle.format.specs.Format.{setting_of};
 ghost use Rattle.net.specs.Nets.{no_claim};
-ghost use Rattle.net.specs.Reading.{add, arc_count, coded, empty, full, linked, newest, setting};
+ghost use Rattle.net.specs.Reading.{add, arc_count, coded, empty, full, linked, newest, setting, unweighted};
 ghost use Rattle.net.specs.Spans.{arc_told};
 ghost use Rattle.net.specs.System.{no_transition, told_by, transition_told};
 
-use super::{Arc, Claim, Parts, Side, Transition};
+use super::{Arc, Claim, Parts, Transition};
 use crate::net::CELLS;
 use domain::Kind;
 use format::{Code, Command, Context, Direction, variable_sizes};
@@ -37,13 +37,24 @@ impl Transition {
         ensures { OnOk result (transition_told self.new ≡ linked direction (arc_told arc) (transition_told self.old)) }
     {
         match direction {
-            Direction::In => self.takes.add(arc),
-            Direction::Out => self.puts.add(arc),
+            Direction::In => self.takes.push(arc)?,
+            Direction::Out => self.puts.push(arc)?,
         }
+        Ok(())
     }
 }
 
 impl Claim {
+    // One without weights.
+    fn new(kind: Kind) -> Claim
+        ensures { result ≡ unweighted kind }
+    {
+        Claim {
+            kind,
+            codes: [0; CELLS],
+        }
+    }
+
     // Gives a cell a code, if there is such a cell.
     fn set(&mut self, cell: usize, code: i32)
         ensures { self.new ≡ coded (λ xs. slice_set xs cell code) self.old }
@@ -106,9 +117,7 @@ impl Parts {
     {
         self.transitions.iter().fold(
             0,
-            |n: usize, t| n
-                .saturating_add(t.takes.arcs.len())
-                .saturating_add(t.puts.arcs.len()),
+            |n: usize, t| n.saturating_add(t.takes.len()).saturating_add(t.puts.len()),
         )
     }
 
@@ -188,12 +197,8 @@ impl Parts {
             sorts: sorts.to_vec(heap)?,
             sizes: variable_sizes(self.sizes.as_slice(), sorts),
             guard: None,
-            takes: Side {
-                arcs: Vec::new(heap),
-            },
-            puts: Side {
-                arcs: Vec::new(heap),
-            },
+            takes: Vec::new(heap),
+            puts: Vec::new(heap),
         })?;
         Ok(())
     }
@@ -226,10 +231,7 @@ impl Parts {
     fn add_claim(&mut self, kind: Kind) -> Result<(), AllocError>
         ensures { OnOk result (told_by self.new ≡ add (told_by self.old) (claim (kind_number kind) (kind_modulus kind))) }
     {
-        self.claims.push(Claim {
-            kind,
-            codes: [0; CELLS],
-        })?;
+        self.claims.push(Claim::new(kind))?;
         Ok(())
     }
 
