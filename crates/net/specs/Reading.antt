@@ -39,10 +39,11 @@ renew xs none f = slice_set xs (length xs - 1) (f (newest xs none))
 abbrev pub setting : SystemNet → ℕ → Setting
 setting n ends = record { signature = n.sig; places = n.places; variables = (newest n.transitions no_transition).sorts; kind = (newest n.claims no_claim).kind; ends = ends }
 
--- how many arcs there are, both directions together
+-- how many arcs a transition has, both directions together
 abbrev pub arcs_in : Transition → ℕ
 arcs_in t = length t.takes + length t.puts
 
+-- how many arcs there are
 abbrev pub arc_count : SystemNet → ℕ
 arc_count n = sum_by arcs_in n.transitions
 
