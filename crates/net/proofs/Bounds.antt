@@ -1,24 +1,21 @@
 -- What soundness bounds: the bags and the tokens of one side of a firing, and the modes.
-use Rattle.std.proofs.Common.{ℕ, suc, ◌+◌, ◌-◌, ◌*◌, ◌<◌, ◌≤◌, Bool, true, false, eqb, ltb, leb, List, [], ◌∷◌, length, ap, arith}
+use Rattle.std.proofs.Common.{ℕ, ◌+◌, ◌-◌, ◌*◌, ◌<◌, ◌≤◌, eqb, ltb, leb, List, [], ◌∷◌, length, ap, arith}
 use Rattle.std.specs.List.{All, sum_by}
 use Rattle.std.proofs.lemmas.List.{length-append}
-use Rattle.std.proofs.lemmas.List.Elements.{All-nil}
+use Rattle.std.proofs.lemmas.List.Elements.{All-nil, All-tail}
 use Rattle.std.proofs.lemmas.List.Sums.{get_or-le-sum_by, sum_by-cons, sum_by-le}
 use Rattle.std.proofs.lemmas.Bool.{cond_both}
 use Rattle.format.specs.Format.{mode_count}
 use Rattle.format.specs.declared.command.Direction.{Direction}
 use Rattle.format.specs.declared.command.Direction.TheVariants as direction
-use Rattle.term.specs.Meaning.{Bag, Sig, Term, apply, bag_operation, both, constant, copies_in, count, empty, equal, flexible, negate, no_bag, single, size, sum, truth, value, variable}
-use Rattle.net.specs.Nets.{arcs_of, bag_of, given, largest_side, part, side, taken, transition}
+use Rattle.term.specs.Meaning.{Bag, Sig, Term, apply, bag_operation, both, constant, copies_in, count, empty, equal, flexible, negate, no_bag, single, size, sum, value, variable}
+use Rattle.net.specs.Nets.{arcs_of, bag_of, largest_side, part, side, transition}
 use Rattle.net.specs.Sound.{Bytes, Sound, SoundArc, SoundTransition, bytes_of}
 use Rattle.net.specs.Spans.{Arc, span, spans, towards}
 use Rattle.net.specs.System.{SystemNet, Transition, no_transition}
 use Rattle.net.specs.Written.{bag_bytes, term_bytes}
 use Rattle.net.proofs.Anywhere.{anywhere}
-
--- what holds of the head and of the rest
-pub rest_all : {X : Type 0} (P : X → Type 0) (x : X) (xs : List X) → All P (x ∷ xs) → All P xs
-rest_all P x xs a k d h = a (suc k) d (omega arith)
+use Rattle.net.proofs.Below.{truth_below}
 
 at_least_two : (s : Sig) (t : Term) → 2 ≤ length (term_bytes s t)
 at_least_two s (variable v) = omega arith
@@ -28,16 +25,13 @@ at_least_two s (equal sort a b) = omega arith
 at_least_two s (negate a) = let h = at_least_two s a in omega arith
 at_least_two s (both a b) = let h = at_least_two s a in omega (arith, length-append (term_bytes s a) (term_bytes s b))
 
-at_most_one : (t : Bool) → truth t ≤ 1
-at_most_one true = omega arith
-at_most_one false = omega arith
-
 -- in one transition the bags that go one way are part of the bytes
 one_side : (t : Transition) (d : Direction) → spans (towards d t.takes t.puts) ≤ bytes_of t
 one_side t direction.In = omega arith
 one_side t direction.Out = omega arith
 
-sound_side : (s : Sig) (places : List ℕ) (t : Transition) (d : Direction) → SoundTransition s places t → All (SoundArc s places t.sorts) (towards d t.takes t.puts)
+-- the arcs that go one way are sound
+pub sound_side : (s : Sig) (places : List ℕ) (t : Transition) (d : Direction) → SoundTransition s places t → All (SoundArc s places t.sorts) (towards d t.takes t.puts)
 sound_side s places t direction.In h = h.takes
 sound_side s places t direction.Out h = h.puts
 
@@ -58,7 +52,7 @@ module _ (n : SystemNet) (sound : Sound n) (m : List ℕ) where
   -- at most 255 of an element for each 4 bytes: no flexible arc is shorter, since its argument has two bytes at least
   many : (b : Bag) (e : ℕ) → 4 * count n.sig m b e ≤ 255 * length (bag_bytes n.sig b)
   many empty e = omega arith
-  many (single t) e = let h = at_most_one (eqb (value n.sig m t) e) in let l = at_least_two n.sig t in omega arith
+  many (single t) e = let h = truth_below (eqb (value n.sig m t) e) in let l = at_least_two n.sig t in omega arith
   many (sum a b) e = let x = many a e in let y = many b e in omega (arith, length-append (bag_bytes n.sig a) (bag_bytes n.sig b))
   many (flexible k t) e = let h = few_copies k (value n.sig m t) e in let l = at_least_two n.sig t in omega arith
 
@@ -71,7 +65,7 @@ module _ (n : SystemNet) (sound : Sound n) (m : List ℕ) where
   all_arcs places vars [] c h = omega arith
   all_arcs places vars (a ∷ xs) c h =
       let x = one_arc places vars a c (h 0 a (omega arith)) in
-      let y = all_arcs places vars xs c (rest_all (SoundArc n.sig places vars) a xs h) in
+      let y = all_arcs places vars xs c (All-tail (SoundArc n.sig places vars) a xs h) in
       omega (arith, sum_by-cons (part n m c) a xs, sum_by-cons span a xs)
 
   pub few : (t c : ℕ) (d : Direction) → side n m (arcs_of n t d) c ≤ largest_side
@@ -85,13 +79,6 @@ module _ (n : SystemNet) (sound : Sound n) (m : List ℕ) where
       none : (d : Direction) → All (SoundArc n.sig n.places []) (towards d [] [])
       none direction.In = All-nil (SoundArc n.sig n.places [])
       none direction.Out = All-nil (SoundArc n.sig n.places [])
-
--- what a transition takes and puts
-pub few_taken : (n : SystemNet) → Sound n → (t : ℕ) (m : List ℕ) (c : ℕ) → taken n t m c ≤ largest_side
-few_taken n sound t m c = few n sound m t c direction.In
-
-pub few_given : (n : SystemNet) → Sound n → (t : ℕ) (m : List ℕ) (c : ℕ) → given n t m c ≤ largest_side
-few_given n sound t m c = few n sound m t c direction.Out
 
 -- the modes of all transitions
 pub few_modes : (n : SystemNet) → Sound n → sum_by (λ t. mode_count t.sizes) n.transitions ≤ 32 * 65536

@@ -134,14 +134,11 @@ impl Net {
     pub fn guard(&self, f: Firing) -> bool
         ensures { result ≡ guard_holds (system self.now) f.transition f.mode }
     {
-        let Some(t) = self.parts.transition(f.transition) else {
-            return true;
-        };
-        let Some(term) = &t.guard else {
+        let Some(term) = self.parts.guard(f.transition) else {
             return true;
         };
         let evaluator = self.evaluator(&f.mode);
-        let (v, _) = evaluator.value(term.as_slice(), DEPTH);
+        let (v, _) = evaluator.value(term, DEPTH);
         v == 1
     }
 

@@ -1,11 +1,11 @@
 // The parts of a net as it is read, command by command.
-ghost use Rattle.std.specs.Prelude.{◌≡◌, ◌-◌, ◌^◌, min, IfOk, OnOk, slice_set};
+ghost use Rattle.std.specs.Prelude.{◌≡◌, ◌-◌, ◌^◌, min, IfOk, OnOk, slice_set, vec_items};
 ghost use Rattle.domain.specs.Kinds.{kind_modulus, kind_number};
 ghost use Rattle.term.specs.Meaning.{of};
 ghost use Rattle.format.specs.Commands.{arc, arity, bag_operation, claim, element_weight, first, guard, operation, place_weight, said_of, second, tokens, transition};
 ghost use Rattle.format.specs.Format.{setting_of};
 ghost use Rattle.net.specs.Nets.{no_claim};
-ghost use Rattle.net.specs.Reading.{add, arc_count, coded, empty, full, linked, newest, setting, unweighted};
+ghost use Rattle.net.specs.Reading.{add, arc_count, arcs_in, coded, empty, full, guarded, linked, newest, setting, unweighted};
 ghost use Rattle.net.specs.Spans.{arc_told};
 ghost use Rattle.net.specs.System.{no_transition, told_by, transition_told};
 
@@ -32,6 +32,19 @@ const ARCS: usize = 128;
 const CLAIMS: usize = 16;
 
 impl Transition {
+    // How many arcs there are, both directions together.
+    fn arc_count(&self) -> usize
+        ensures { result ≡ arcs_in (transition_told self.now) }
+    {
+        self.takes.len() + self.puts.len()
+    }
+
+    fn set_guard(&mut self, term: Vec<u8>)
+        ensures { transition_told self.new ≡ guarded (vec_items term) (transition_told self.old) }
+    {
+        self.guard = Some(term);
+    }
+
     // Adds an arc that goes one way.
     fn add(&mut self, direction: Direction, arc: Arc) -> Result<(), AllocError>
         ensures { OnOk result (transition_told self.new ≡ linked direction (arc_told arc) (transition_told self.old)) }
@@ -115,10 +128,9 @@ impl Parts {
     fn arc_count(&self) -> usize
         ensures { result ≡ min (arc_count (told_by self.now)) (2 ^ 64 - 1) }
     {
-        self.transitions.iter().fold(
-            0,
-            |n: usize, t| n.saturating_add(t.takes.len()).saturating_add(t.puts.len()),
-        )
+        self.transitions
+            .iter()
+            .fold(0, |n: usize, t| n.saturating_add(t.arc_count()))
     }
 
     pub(crate) fn signature(&self) -> Signature<'_>
@@ -209,7 +221,7 @@ impl Parts {
     {
         let term = term.to_vec(*self.transitions.allocator())?;
         if let Some(t) = self.transitions.last_mut() {
-            t.guard = Some(term);
+            t.set_guard(term);
         }
         Ok(())
     }
