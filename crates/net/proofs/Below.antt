@@ -22,7 +22,7 @@ inside s arguments.None x y h = let p = h.0 in let q = h.1 in omega arith
 inside s (arguments.One a) x y h = let p = h.0 in let q = h.1 in omega arith
 inside s (arguments.Two a b) x y h = omega (arith, mul-add-lt x (size s b) y (size s a) h.0 h.1)
 
-truth_below : (t : Bool) → truth t < 2
+pub truth_below : (t : Bool) → truth t < 2
 truth_below true = omega arith
 truth_below false = omega arith
 

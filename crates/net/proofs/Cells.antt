@@ -1,14 +1,15 @@
 -- Cells: the initial marking and the codes of claims, as they are told.
 use Rattle.std.proofs.Common.{◌≡◌, ℕ, zero, suc, ◌+◌, ◌*◌, ◌/◌, ◌%◌, ◌^◌, ◌<◌, ◌≤◌, Bool, true, false, cond, ltb, List, [], ◌∷◌, ◌++◌, length, get_or, set, replicate, ℤ, pos, sym, refl, ap, ◌∙◌, subst, ⊎_elim, arith, le-ltb, lt-ltb}
 use Rattle.std.specs.List.{All}
-use Rattle.std.proofs.lemmas.List.{get_or_append_left, get_or_past, get_or-replicate, get_or-set_other, get_or-set_same, length_push, length-replicate, length-set, set_past}
-use Rattle.std.proofs.lemmas.List.Elements.{All-push, All-set}
+use Rattle.std.proofs.lemmas.List.{get_or_append_left, get_or-set_other, get_or-set_same, length_push, length-set, set_past}
+use Rattle.std.proofs.lemmas.List.Elements.{All-push, All-replicate, All-set}
 use Rattle.std.proofs.lemmas.Bool.{both_ways, cases_eq, cases_lt, cond_both, cond-true}
 use Rattle.domain.specs.Kinds.{kind_weighs}
 use Rattle.domain.specs.declared.kind.Kind.{Kind}
 use Rattle.domain.specs.declared.kind.Kind.TheVariants.{Equal, NeverRises, NeverFalls, Modulo, Trap, Siphon}
 use Rattle.format.specs.Format.{place_size, size_of}
 use Rattle.net.specs.Reading.{put_row}
+use Rattle.net.proofs.Anywhere.{anywhere}
 
 -- an element after a change at j, which is itself changed only there
 pub changed_at : {X : Type 0} (P : X → Type 0) (d : X) (xs : List X) (j : ℕ) (x : X) (i : ℕ) → P (get_or xs i d) → (i ≡ j → P x) → P (get_or (set xs j x) i d)
@@ -22,10 +23,7 @@ changed_at {X} P d xs j x i p q = ⊎_elim
 
 -- a list of one element has no other, also past its end
 pub alike : {X : Type 0} (x : X) (n c : ℕ) → get_or (replicate n x) c x ≡ x
-alike x n c = ⊎_elim
-    (λ (h : c < n). get_or-replicate n c x x h)
-    (λ (h : n ≤ c). get_or_past (replicate n x) c x (omega (arith, length-replicate n x)))
-    (cases_lt c n)
+alike x n = anywhere (λ y. y ≡ x) (replicate n x) x (All-replicate (λ y. y ≡ x) n x refl) refl
 
 module _ (sizes places : List ℕ) where
   -- an element of a place stands in the cell

@@ -1,5 +1,5 @@
 -- Claims and their codes, as they are told.
-use Rattle.std.proofs.Common.{◌≡◌, ℕ, ◌+◌, ◌-◌, ◌*◌, ◌<◌, ◌≤◌, false, true, List, [], ◌∷◌, ◌++◌, length, get_or, set, replicate, ℤ, pos, arith, ◌∙◌}
+use Rattle.std.proofs.Common.{◌≡◌, ℕ, ◌+◌, ◌-◌, ◌*◌, ◌<◌, ◌≤◌, false, true, List, [], ◌∷◌, ◌++◌, length, get_or, set, ℤ, pos, arith, ◌∙◌}
 use Rattle.std.specs.List.{All}
 use Rattle.std.proofs.lemmas.List.{length_push, length-replicate, length-set}
 use Rattle.std.proofs.lemmas.List.Elements.{All-push, All-replicate, All-set}
@@ -9,7 +9,7 @@ use Rattle.domain.specs.declared.kind.Kind.{Kind}
 use Rattle.format.specs.Format.{place_size, size_of}
 use Rattle.net.specs.declared.parts.Claim.{Claim}
 use Rattle.net.specs.Nets.{no_claim}
-use Rattle.net.specs.Reading.{coded, newest, put_row, renew}
+use Rattle.net.specs.Reading.{coded, newest, put_row, renew, unweighted}
 use Rattle.net.proofs.Cells.{alike, cell, changed_at, in_row, row_all, row_at, row_length, zero_weighs}
 use Rattle.net.proofs.Newest.{renew_all}
 
@@ -29,17 +29,15 @@ module _ (sizes places : List ℕ) (claims : List Claim) (f : Codings sizes plac
   pub codings_before : length claims ≡ 0 → (others more : List ℕ) → Codings others more claims
   codings_before h others more = record { few = f.few; all = λ i d l. let z : ⊥ = omega arith in absurd z }
 
-  pub codings_claim : length claims < 16 → (k : Kind) → Codings sizes places (claims ++ (record { kind = k; codes = replicate 1024 (pos 0) }) ∷ [])
-  codings_claim room k =
-      let new : Claim = record { kind = k; codes = replicate 1024 (pos 0) } in
-      record {
-        few = omega (arith, length_push claims new);
-        all = All-push (Weighted sizes places) claims new f.all (record {
-          long = length-replicate 1024 (pos 0);
-          weights = All-replicate (λ c. kind_weighs k c ≡ true) 1024 (pos 0) (zero_weighs k);
-          none = λ c _. alike (pos 0) 1024 c;
-        });
-      }
+  pub codings_claim : length claims < 16 → (k : Kind) → Codings sizes places (claims ++ unweighted k ∷ [])
+  codings_claim room k = record {
+    few = omega (arith, length_push claims (unweighted k));
+    all = All-push (Weighted sizes places) claims (unweighted k) f.all (record {
+      long = length-replicate 1024 (pos 0);
+      weights = All-replicate (λ c. kind_weighs k c ≡ true) 1024 (pos 0) (zero_weighs k);
+      none = λ c _. alike (pos 0) 1024 c;
+    });
+  }
 
   abbrev last : Claim
   last = newest claims no_claim

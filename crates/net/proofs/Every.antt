@@ -1,11 +1,9 @@
 -- What holds of every net in memory, since it is sound.
-use Rattle.std.proofs.Common.{◌≡◌, ℕ, ◌*◌, ◌<◌, ◌≤◌, true, List, length, get_or, pos, sum_by, ap, ◌∙◌, ⊎_elim, arith}
+use Rattle.std.proofs.Common.{◌≡◌, ℕ, ◌*◌, ◌<◌, ◌≤◌, true, List, length, get_or, pos, sum_by, ap, ◌∙◌, arith}
 use mathlib.Core.Logic.{∥∥₁_elim}
 use Rattle.std.proofs.Math.Bool.{Bool-set}
 use Rattle.std.proofs.Math.Bridge.{le_prop}
 use Rattle.std.proofs.Math.Nat.{ℕ_set}
-use Rattle.std.proofs.lemmas.List.{get_or_past}
-use Rattle.std.proofs.lemmas.Bool.{cases_lt}
 use Rattle.domain.specs.Kinds.{kind_weighs}
 use Rattle.domain.specs.declared.kind.Kind.{Kind}
 use Rattle.format.specs.Format.{mode_count}
@@ -13,12 +11,18 @@ use Rattle.format.specs.declared.command.Direction.{Direction}
 use Rattle.net.specs.declared.net.Net.{Net}
 use Rattle.net.specs.Nets.{ExactlyTallied, HasCell, IsKind, Mode, Tallied, arcs_of, codes_of, largest_side, no_claim, side, transition}
 use Rattle.net.specs.Of.{system}
-use Rattle.net.specs.System.{Transition, no_transition}
-use Rattle.net.proofs.Bounds.{few, few_modes}
+use Rattle.net.specs.Spans.{spans}
+use Rattle.net.specs.System.{no_transition}
+use Rattle.net.proofs.Anywhere.{anywhere}
+use Rattle.net.proofs.Bounds.{few, few_modes, short_side}
 use Rattle.net.proofs.Outside.{outside}
 
 module _ (n : Net) where
-  -- the arcs of a transition that go one way have few tokens in a cell
+  -- the arcs of a transition that go one way have short bags
+  pub short_arcs : (t : ℕ) (d : Direction) → spans (arcs_of (system n) t d) ≤ 65536
+  short_arcs t d = ∥∥₁_elim n.sound le_prop (λ s. short_side (system n) s t d)
+
+  -- and few tokens in a cell
   pub few_tokens : (m : List ℕ) (t c : ℕ) (d : Direction) → side (system n) m (arcs_of (system n) t d) c ≤ largest_side
   few_tokens m t c d = ∥∥₁_elim n.sound le_prop (λ s. few (system n) s m t c d)
 
@@ -36,10 +40,7 @@ module _ (n : Net) where
 
   -- a transition has few modes
   pub modes_in_one : (t : ℕ) → mode_count (transition (system n) t).sizes ≤ 65536
-  modes_in_one t = ∥∥₁_elim n.sound le_prop (λ s. ⊎_elim
-      (λ (h : t < length (system n).transitions). (s.transitions t no_transition h).modes)
-      (λ (h : length (system n).transitions ≤ t). let e = ap (λ (x : Transition). mode_count x.sizes) (get_or_past (system n).transitions t no_transition h) in omega arith)
-      (cases_lt t (length (system n).transitions)))
+  modes_in_one t = ∥∥₁_elim n.sound le_prop (λ s. anywhere (λ x. mode_count x.sizes ≤ 65536) (system n).transitions no_transition (λ i d h. (s.transitions i d h).modes) (omega arith) t)
 
   -- in a mode, a transition's arcs touch no cell that the net has not
   pub untouched : (m : List ℕ) (t c : ℕ) (d : Direction) → t < length (system n).transitions → Mode (transition (system n) t).sizes m → c < 1024 → (HasCell (system n) c → ⊥) → side (system n) m (arcs_of (system n) t d) c ≡ 0

@@ -1,3 +1,4 @@
+pub mod Anywhere
 pub mod Arcs
 pub mod Below
 pub mod Bounds

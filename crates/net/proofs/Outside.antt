@@ -1,19 +1,18 @@
 -- In a mode, the arcs of a transition put and take nothing where the net has no cell.
-use Rattle.std.proofs.Common.{◌≡◌, ℕ, zero, suc, ◌-◌, ◌*◌, ◌/◌, ◌%◌, ◌<◌, ◌≤◌, ltb, leb, List, [], ◌∷◌, length, get_or, refl, ap, ◌∙◌, ⊎_elim, arith, leb-true, lt-ltb}
+use Rattle.std.proofs.Common.{◌≡◌, ℕ, zero, suc, ◌-◌, ◌*◌, ◌/◌, ◌%◌, ◌<◌, ◌≤◌, ltb, leb, List, length, get_or, refl, ap, ◌∙◌, ⊎_elim, arith, leb-true, lt-ltb}
 use Rattle.std.specs.List.{All}
-use Rattle.std.proofs.lemmas.List.{get_or_past}
-use Rattle.std.proofs.lemmas.List.Sums.{sum_by-cons}
+use Rattle.std.proofs.lemmas.List.Sums.{sum_by-le}
 use Rattle.std.proofs.lemmas.Bool.{cases_lt, cond_both, cond-true}
 use Rattle.format.specs.Format.{place_size, size_of, variable_size, variable_sizes}
 use Rattle.format.specs.declared.command.Direction.{Direction}
-use Rattle.format.specs.declared.command.Direction.TheVariants as direction
 use Rattle.term.specs.Meaning.{size}
 use Rattle.net.specs.Nets.{HasCell, Mode, arcs_of, depth, part, side, transition}
 use Rattle.net.specs.Sound.{Sound, SoundArc, SoundTransition}
 use Rattle.net.specs.Spans.{Arc}
 use Rattle.net.specs.System.{SystemNet, Transition, no_transition}
+use Rattle.net.proofs.Anywhere.{anywhere}
 use Rattle.net.proofs.Below as below
-use Rattle.net.proofs.Bounds.{rest_all}
+use Rattle.net.proofs.Bounds.{sound_side}
 
 four_cases : (P : ℕ → Type 0) → P 0 → P 1 → P 2 → P 3 → (v : ℕ) → v < 4 → P v
 four_cases P a b c e zero h = a
@@ -28,7 +27,7 @@ sized sizes k sorts = four_cases (λ v. get_or (variable_sizes sizes k sorts) v 
 
 module _ (n : SystemNet) (sound : Sound n) (m : List ℕ) (c : ℕ) (in-all : c < 1024) (lacks : HasCell n c → ⊥) where
   small : (k : ℕ) → size n.sig k ≤ 64
-  small k = ⊎_elim (λ (h : k < length n.sig.sizes). sound.sizes k 0 h) (λ (h : length n.sig.sizes ≤ k). let e = get_or_past n.sig.sizes k 0 h in omega arith) (cases_lt k (length n.sig.sizes))
+  small = anywhere (λ j. j ≤ 64) n.sig.sizes 0 sound.sizes (omega arith)
 
   -- what is no cell is outside the sort of every place
   outside_place : (p : ℕ) → p < length n.places → 64 * p ≤ c → size n.sig (get_or n.places p 0) ≤ c - 64 * p
@@ -65,12 +64,7 @@ module _ (n : SystemNet) (sound : Sound n) (m : List ℕ) (c : ℕ) (in-all : c 
         (λ low. below.outside n.sig sound.operations (omega (arith, sound.truths)) h.sorts m in_mode depth (get_or n.places a.place 0) (c - 64 * a.place) a.bag (outside_place a.place f.place (leb-true _ _ low)) f.bag.over) (λ _. refl)
 
     no_tokens : (xs : List Arc) → All (SoundArc n.sig n.places h.sorts) xs → side n m xs c ≡ 0
-    no_tokens [] f = refl
-    no_tokens (a ∷ xs) f =
-        let x = no_token a (f 0 a (omega arith)) in
-        let y = no_tokens xs (rest_all (SoundArc n.sig n.places h.sorts) a xs f) in
-        omega (arith, x, y, sum_by-cons (part n m c) a xs)
+    no_tokens xs f = let none = sum_by-le (part n m c) 0 xs (λ i d l. let e = no_token _ (f i d l) in omega arith) in omega arith
 
     pub outside : (d : Direction) → side n m (arcs_of n t d) c ≡ 0
-    outside direction.In = no_tokens h.takes fits.takes
-    outside direction.Out = no_tokens h.puts fits.puts
+    outside d = no_tokens (arcs_of n t d) (sound_side n.sig n.places h d fits)

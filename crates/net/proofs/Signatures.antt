@@ -7,6 +7,7 @@ use Rattle.std.proofs.lemmas.Bool.{cases_lt}
 use Rattle.term.specs.Meaning.{BagOperation, Operation, Sig}
 use Rattle.format.specs.Format.{size_of}
 use Rattle.net.specs.Sound.{SoundBagOperation, SoundOperation}
+use Rattle.net.proofs.Anywhere.{anywhere}
 
 -- at most 8 sorts, 32 operations and 8 bag operations; sort 0 has two elements, and every sort 1 to 64
 pub record Signed (s : Sig) : Type 0 where
@@ -25,7 +26,7 @@ module _ (s : Sig) (f : Signed s) where
 
   -- no sort has more than 64 elements
   pub small : (k : ℕ) → size_of s.sizes k ≤ 64
-  small k = ⊎_elim (λ (h : k < length s.sizes). f.sizes k 0 h) (λ (h : length s.sizes ≤ k). let e = get_or_past s.sizes k 0 h in omega arith) (cases_lt k (length s.sizes))
+  small = anywhere (λ j. j ≤ 64) s.sizes 0 f.sizes (omega arith)
 
   -- a sort, before there are operations
   pub with_sort : (k : ℕ) → 1 ≤ k → k ≤ 64 → length s.sizes < 8 → length s.operations ≡ 0 → length s.bags ≡ 0 → Signed (record s { sizes = s.sizes ++ k ∷ [] })

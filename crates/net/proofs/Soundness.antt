@@ -1,5 +1,5 @@
 -- Every net that a file tells is sound.
-use Rattle.std.proofs.Common.{◌≡◌, ℕ, zero, suc, ◌+◌, ◌/◌, ◌%◌, ◌<◌, ◌≤◌, false, ltb, leb, List, [], length, get_or, pos, Some, None, Ok, Err, Option, Result, sum_by, sym, refl, subst, ⊎_elim, arith, leb-false, leb-true}
+use Rattle.std.proofs.Common.{◌≡◌, ℕ, zero, suc, ◌+◌, ◌/◌, ◌%◌, ◌<◌, ◌≤◌, false, ltb, leb, List, [], ◌∷◌, length, get_or, pos, Some, None, Ok, Err, Option, Result, sum_by, sym, refl, subst, ⊎_elim, arith, leb-false, leb-true}
 use Rattle.std.proofs.lemmas.List.{get_or_past, length-replicate}
 use Rattle.std.proofs.lemmas.List.Elements.{All-cons, All-nil, All-replicate}
 use Rattle.std.proofs.lemmas.Bool.{cases_lt, cond_both, le-ltb}
@@ -15,11 +15,12 @@ use Rattle.net.specs.Nets.{HasCell}
 use Rattle.net.specs.declared.reader.ReadError.{ReadError}
 use Rattle.net.specs.declared.reader.ReadError.TheVariants.{File, Memory}
 use Rattle.net.specs.Reading.{Opening, Reads, Step, Told, add, after, arc_count, carried, commands, empty, entered, full, known, last, next, opened, setting, step, stop, told, went}
-use Rattle.net.specs.Sound.{Bytes, Sound, bytes_of}
+use Rattle.net.specs.Sound.{Bytes, Declared, Sound, SoundBagOperation, SoundOperation, SoundTransition, bytes_of}
 use Rattle.net.specs.System.{SystemNet}
 use Rattle.net.proofs.Built.{Built, add_arc, add_bag_operation, add_claim, add_element_weight, add_guard, add_operation, add_place, add_place_weight, add_sort, add_tokens, add_transition}
 use Rattle.net.proofs.Cells.{alike, cell}
-use Rattle.net.proofs.Moves.{arc_bytes, fresh_bytes, guard_bytes}
+use Rattle.net.proofs.Codings.{Weighted}
+use Rattle.net.proofs.Moves.{arc_bytes, bare_bytes, guard_bytes}
 use Rattle.net.proofs.Operands.{Heard, Holds, Taken, heard_bag_operation, heard_claim, heard_element_weight, heard_end, heard_guard, heard_in, heard_operation, heard_out, heard_place, heard_place_weight, heard_sort, heard_tokens, heard_transition, taken, text}
 use Rattle.net.proofs.Stages.{after_arc, after_claim, after_guard, after_operations, after_places, after_sorts, after_transitions, after_weight}
 
@@ -68,7 +69,7 @@ room n (operation k a b c t) bs r h l = omega arith
 room n (bag_operation a b t) bs r h l = omega arith
 room n (place s) bs r h l = omega arith
 room n (tokens p e k) bs r h l = omega arith
-room n (transition v) bs r h l = let e = fresh_bytes n.sig.sizes n.transitions v in omega arith
+room n (transition v) bs r h l = let e = bare_bytes n.sig.sizes n.transitions v in omega arith
 room n (guard t) bs r h l = let e = guard_bytes n.transitions t in omega arith
 room n (arc d p t) bs r h l = let e = arc_bytes n.transitions d (record { place = p; bag = t }) in omega arith
 room n (claim k m) bs r h l = omega arith
@@ -149,19 +150,19 @@ built_empty = record {
     inhabited = All-cons (λ k. 1 ≤ k) 2 [] (omega arith) (All-nil (λ k. 1 ≤ k));
     sizes = All-cons (λ k. k ≤ 64) 2 [] (omega arith) (All-nil (λ k. k ≤ 64));
     few_operations = omega arith;
-    operations = λ i d h. let z : ⊥ = omega arith in absurd z;
+    operations = All-nil (SoundOperation (2 ∷ []));
     few_bags = omega arith;
-    bags = λ i d h. let z : ⊥ = omega arith in absurd z;
+    bags = All-nil (SoundBagOperation (2 ∷ []));
   };
   marking = record {
     few = omega arith;
-    sorts = λ i d h. let z : ⊥ = omega arith in absurd z;
+    sorts = All-nil (Declared (2 ∷ []));
     long = length-replicate {A = ℕ} 1024 0;
     small = All-replicate (λ k. k < 65536) 1024 0 (omega arith);
     none = λ c _. alike 0 1024 c;
   };
-  moves = record { few = omega arith; all = λ i d h. let z : ⊥ = omega arith in absurd z; few_arcs = omega arith };
-  codings = record { few = omega arith; all = λ i d h. let z : ⊥ = omega arith in absurd z };
+  moves = record { few = omega arith; all = All-nil (SoundTransition empty.sig []); few_arcs = omega arith };
+  codings = record { few = omega arith; all = All-nil (Weighted (2 ∷ []) []) };
   stage = record { operations = λ _. refl; bags = λ _. refl; places = λ _. refl; transitions = λ _. refl; claims = λ _. refl };
 }
 

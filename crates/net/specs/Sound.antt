@@ -23,13 +23,13 @@ Bytes bs = All (λ b. b < 256) bs
 abbrev pub Declared : List ℕ → ℕ → Type 0
 Declared sizes k = k < length sizes
 
--- those arguments that there are are of declared sorts
+-- the sort of each argument is declared
 abbrev pub ArgumentsDeclared : List ℕ → Arguments → Type 0
 ArgumentsDeclared sizes arguments.None = Unit {0}
 ArgumentsDeclared sizes (arguments.One a) = Declared sizes a
 ArgumentsDeclared sizes (arguments.Two a b) = Declared sizes a × Declared sizes b
 
--- an operation has a result for each combination of its arguments, an element of its result sort
+-- an operation has a result for each combination of its arguments: an element of its result sort
 pub record SoundOperation (sizes : List ℕ) (o : Operation) : Type 0 where
   pub arguments : ArgumentsDeclared sizes o.arguments
   pub result : Declared sizes o.result
@@ -43,12 +43,12 @@ pub record SoundBagOperation (sizes : List ℕ) (o : BagOperation) : Type 0 wher
   pub whole : length o.table ≡ size_of sizes o.argument * size_of sizes o.result
   pub counts : Bytes o.table
 
--- bytes are one term of a sort, and nothing else
+-- bytes are one term of the sort want, in variables of these sorts, and nothing else
 pub record IsTerm (s : Sig) (vars : List ℕ) (want : ℕ) (bs : List ℕ) : Type 0 where
   pub over : sorted s vars want (term_at s depth bs).0 ≡ true
   pub bytes : bs ≡ term_bytes s (term_at s depth bs).0
 
--- bytes are one bag over a sort, and nothing else
+-- bytes are one bag over the sort want, and nothing else
 pub record IsBag (s : Sig) (vars : List ℕ) (want : ℕ) (bs : List ℕ) : Type 0 where
   pub over : bag_sorted s vars want (bag_at s depth bs).0 ≡ true
   pub bytes : bs ≡ bag_bytes s (bag_at s depth bs).0
@@ -63,7 +63,7 @@ pub record SoundArc (s : Sig) (places vars : List ℕ) (a : Arc) : Type 0 where
   pub place : a.place < length places
   pub bag : IsBag s vars (slice_index places a.place) a.bag
 
--- a transition has at most 4 variables, of declared sorts, and 65,536 modes
+-- a transition has at most 4 variables, of declared sorts, and at most 65,536 modes
 pub record SoundTransition (s : Sig) (places : List ℕ) (t : Transition) : Type 0 where
   pub few : length t.sorts ≤ 4
   pub sorts : All (Declared s.sizes) t.sorts
@@ -97,7 +97,7 @@ pub record Sound (n : SystemNet) : Type 0 where
   -- at most 16 places, of declared sorts
   pub few_places : length n.places ≤ 16
   pub places : All (Declared n.sig.sizes) n.places
-  -- the initial marking has 1,024 counts of 16 bits; those that are no cells are 0
+  -- the initial marking has 1,024 counts of 16 bits; one that is of no cell is 0
   pub marked : length n.initial ≡ 1024
   pub counts : All (λ k. k < 2 ^ 16) n.initial
   pub unmarked : (c : ℕ) → (HasCell n c → ⊥) → slice_index n.initial c ≡ 0
@@ -106,7 +106,7 @@ pub record Sound (n : SystemNet) : Type 0 where
   pub transitions : All (SoundTransition n.sig n.places) n.transitions
   pub few_arcs : arc_count n ≤ 128
   pub short : sum_by bytes_of n.transitions ≤ 65536
-  -- at most 16 claims; codes that are of no cell are 0
+  -- at most 16 claims; a code that is of no cell is 0
   pub few_claims : length n.claims ≤ 16
   pub claims : All SoundClaim n.claims
   pub uncoded : All (λ k. (c : ℕ) → (HasCell n c → ⊥) → slice_index_or k.codes c (pos 0) ≡ pos 0) n.claims

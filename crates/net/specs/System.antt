@@ -33,8 +33,8 @@ transition_told t = record {
   sorts = vec_items t.sorts;
   sizes = t.sizes;
   guard = option_map vec_items t.guard;
-  takes = map arc_told (vec_items t.takes.arcs);
-  puts = map arc_told (vec_items t.puts.arcs);
+  takes = map arc_told (vec_items t.takes);
+  puts = map arc_told (vec_items t.puts);
 }
 
 -- the net that parts in memory tell

@@ -19,7 +19,7 @@ term_bytes s (equal sort a b) = 0x23 ∷ sort ∷ (term_bytes s a ++ term_bytes 
 term_bytes s (negate a) = 0x24 ∷ term_bytes s a
 term_bytes s (both a b) = 0x25 ∷ (term_bytes s a ++ term_bytes s b)
 
--- a bag
+-- a bag, in the same way
 abbrev pub bag_bytes : Sig → Bag → List ℕ
 bag_bytes s empty = 0x30 ∷ []
 bag_bytes s (single t) = 0x31 ∷ term_bytes s t

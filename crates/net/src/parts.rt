@@ -1,10 +1,7 @@
-ghost use Rattle.std.specs.Prelude.{◌≡◌, ◌≤◌, ◌++◌, ◌∷◌, [], OnOk, map, slice_index};
-ghost use Rattle.net.specs.Spans.{arc_told, spans};
+ghost use Rattle.std.specs.Prelude.{◌≡◌, slice_index};
 
 use crate::net::CELLS;
-use crate::reader::LONGEST;
 use domain::Kind;
-use std::alloc::AllocError;
 use term::{BagOperation, Operation};
 
 pub mod ask;
@@ -17,14 +14,6 @@ pub struct Arc {
     pub(crate) bag: Vec<u8>,
 }
 
-// The arcs of a transition that go one way. Their bags are short enough that no sum of their weights or counts
-// passes its bounds.
-#[derive(Drop)]
-pub struct Side {
-    pub(crate) arcs: Vec<Arc>,
-    ghost short: { spans (map arc_told arcs.items) ≤ 65536 },
-}
-
 // A transition: the sorts of its variables, how many elements each of four has (1 for an unused one), the term
 // of its guard, and the arcs by which it takes tokens and puts them.
 #[derive(Drop)]
@@ -32,8 +21,8 @@ pub struct Transition {
     pub(crate) sorts: Vec<u8>,
     pub(crate) sizes: [u8; 4],
     pub(crate) guard: Option<Vec<u8>>,
-    pub(crate) takes: Side,
-    pub(crate) puts: Side,
+    pub(crate) takes: Vec<Arc>,
+    pub(crate) puts: Vec<Arc>,
 }
 
 // A claim: its kind, and a code for each cell.
@@ -54,25 +43,4 @@ pub struct Parts {
     pub(crate) transitions: Vec<Transition>,
     pub(crate) claims: Vec<Claim>,
     ghost first: { slice_index sizes.items 0 ≡ 2 },
-}
-
-impl Side {
-    // How many bytes the bags have.
-    fn span(&self) -> usize
-        ensures { result ≡ spans (map arc_told self.now.arcs.items) }
-    {
-        self.arcs.iter().map(|a| a.bag.len()).sum()
-    }
-
-    // Adds an arc. Bags of more bytes than the longest file has are not taken: they count as want of memory, since no
-    // file can come to them.
-    pub(crate) fn add(&mut self, arc: Arc) -> Result<(), AllocError>
-        ensures { OnOk result (self.new.arcs.items ≡ self.old.arcs.items ++ arc ∷ []) }
-    {
-        if arc.bag.len() > LONGEST - self.span() {
-            return Err(AllocError);
-        }
-        self.arcs.push(arc)?;
-        Ok(())
-    }
 }

@@ -1,10 +1,10 @@
 // What judging and firing ask of a net.
 ghost use Rattle.std.specs.Prelude.{◌≡◌, ◌/◌, ◌<◌, ◌≤◌, length, map, MatchOption};
 ghost use Rattle.term.specs.Meaning.{of};
-ghost use Rattle.term.specs.Worth.{Weighs, value_of};
+ghost use Rattle.term.specs.Worth.{value_of};
 ghost use Rattle.domain.specs.Meaning.{Tells};
 ghost use Rattle.format.specs.Format.{mode_count};
-ghost use Rattle.net.specs.Nets.{ExactlyTallied, HasCell, IsKind, Mode, Tallied, arcs_of, codes_of, digit, given, guard_holds, load, mode_of, side, taken, transition};
+ghost use Rattle.net.specs.Nets.{ExactlyTallied, HasCell, IsKind, Mode, Tallied, arcs_of, codes_of, digit, given, guard_holds, mode_of, side, taken, transition};
 ghost use Rattle.net.specs.Of.{system};
 ghost use Rattle.net.specs.Spans.{arc_told};
 
@@ -134,14 +134,11 @@ impl Net {
     pub fn guard(&self, f: Firing) -> bool
         ensures { result ≡ guard_holds (system self.now) f.transition f.mode }
     {
-        let Some(t) = self.parts.transition(f.transition) else {
-            return true;
-        };
-        let Some(term) = &t.guard else {
+        let Some(term) = self.parts.guard(f.transition) else {
             return true;
         };
         let evaluator = self.evaluator(&f.mode);
-        let (v, _) = evaluator.value(term.as_slice(), DEPTH);
+        let (v, _) = evaluator.value(term, DEPTH);
         v == 1
     }
 
@@ -171,7 +168,7 @@ impl Net {
         direction: Direction,
         weights: &Weights<D>,
     ) -> D::Value
-        ensures { Weighs (D.meaning weights.now.domain.now) weights.now.codes.now (D.meaning weights.now.domain.now).nil (side (system self.now) f.mode (arcs_of (system self.now) f.transition direction)) (load (system self.now) (arcs_of (system self.now) f.transition direction)) result }
+        ensures { result ≡ value_of (D.meaning weights.now.domain.now) weights.now.codes.now (side (system self.now) f.mode (arcs_of (system self.now) f.transition direction)) }
     {
         let evaluator = self.evaluator(&f.mode);
         let mut sum = weights.domain.zero();

@@ -1,5 +1,5 @@
 // What is asked of the parts of a net.
-ghost use Rattle.std.specs.Prelude.{◌≡◌, map, MatchOption};
+ghost use Rattle.std.specs.Prelude.{◌≡◌, map, option_map, MatchOption};
 ghost use Rattle.format.specs.Format.{place_size};
 ghost use Rattle.net.specs.Nets.{transition};
 ghost use Rattle.net.specs.Spans.{arc_told, towards};
@@ -14,8 +14,8 @@ impl Transition {
         ensures { map arc_told result.now ≡ towards direction (transition_told self.now).takes (transition_told self.now).puts }
     {
         match direction {
-            Direction::In => self.takes.arcs.as_slice(),
-            Direction::Out => self.puts.arcs.as_slice(),
+            Direction::In => self.takes.as_slice(),
+            Direction::Out => self.puts.as_slice(),
         }
     }
 }
@@ -26,6 +26,14 @@ impl Parts {
         ensures { MatchOption result (transition (told_by self.now) t ≡ no_transition) (λ x. transition (told_by self.now) t ≡ transition_told x.now) }
     {
         self.transitions.get(t)
+    }
+
+    // The guard of the transition of this number.
+    pub(crate) fn guard(&self, t: usize) -> Option<&[u8]>
+        ensures { option_map (λ x. x.now) result ≡ (transition (told_by self.now) t).guard }
+    {
+        let term = self.transition(t)?.guard.as_ref()?;
+        Some(term.as_slice())
     }
 
     // How many elements a place has, 0 where there is no such place.

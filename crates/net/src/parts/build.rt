@@ -1,15 +1,15 @@
 // The parts of a net as it is read, command by command.
-ghost use Rattle.std.specs.Prelude.{◌≡◌, ◌-◌, ◌^◌, min, IfOk, OnOk, slice_set};
+ghost use Rattle.std.specs.Prelude.{◌≡◌, ◌-◌, ◌^◌, min, IfOk, OnOk, slice_set, vec_items};
 ghost use Rattle.domain.specs.Kinds.{kind_modulus, kind_number};
 ghost use Rattle.term.specs.Meaning.{of};
 ghost use Rattle.format.specs.Commands.{arc, arity, bag_operation, claim, element_weight, first, guard, operation, place_weight, said_of, second, tokens, transition};
 ghost use Rattle.format.specs.Format.{setting_of};
 ghost use Rattle.net.specs.Nets.{no_claim};
-ghost use Rattle.net.specs.Reading.{add, arc_count, coded, empty, full, linked, newest, setting};
+ghost use Rattle.net.specs.Reading.{add, arc_count, arcs_in, coded, empty, full, guarded, linked, newest, setting, unweighted};
 ghost use Rattle.net.specs.Spans.{arc_told};
 ghost use Rattle.net.specs.System.{no_transition, told_by, transition_told};
 
-use super::{Arc, Claim, Parts, Side, Transition};
+use super::{Arc, Claim, Parts, Transition};
 use crate::net::CELLS;
 use domain::Kind;
 use format::{Code, Command, Context, Direction, variable_sizes};
@@ -32,18 +32,42 @@ const ARCS: usize = 128;
 const CLAIMS: usize = 16;
 
 impl Transition {
+    // How many arcs there are, both directions together.
+    fn arc_count(&self) -> usize
+        ensures { result ≡ arcs_in (transition_told self.now) }
+    {
+        self.takes.len() + self.puts.len()
+    }
+
+    fn set_guard(&mut self, term: Vec<u8>)
+        ensures { transition_told self.new ≡ guarded (vec_items term) (transition_told self.old) }
+    {
+        self.guard = Some(term);
+    }
+
     // Adds an arc that goes one way.
     fn add(&mut self, direction: Direction, arc: Arc) -> Result<(), AllocError>
         ensures { OnOk result (transition_told self.new ≡ linked direction (arc_told arc) (transition_told self.old)) }
     {
         match direction {
-            Direction::In => self.takes.add(arc),
-            Direction::Out => self.puts.add(arc),
+            Direction::In => self.takes.push(arc)?,
+            Direction::Out => self.puts.push(arc)?,
         }
+        Ok(())
     }
 }
 
 impl Claim {
+    // One without weights.
+    fn new(kind: Kind) -> Claim
+        ensures { result ≡ unweighted kind }
+    {
+        Claim {
+            kind,
+            codes: [0; CELLS],
+        }
+    }
+
     // Gives a cell a code, if there is such a cell.
     fn set(&mut self, cell: usize, code: i32)
         ensures { self.new ≡ coded (λ xs. slice_set xs cell code) self.old }
@@ -104,12 +128,9 @@ impl Parts {
     fn arc_count(&self) -> usize
         ensures { result ≡ min (arc_count (told_by self.now)) (2 ^ 64 - 1) }
     {
-        self.transitions.iter().fold(
-            0,
-            |n: usize, t| n
-                .saturating_add(t.takes.arcs.len())
-                .saturating_add(t.puts.arcs.len()),
-        )
+        self.transitions
+            .iter()
+            .fold(0, |n: usize, t| n.saturating_add(t.arc_count()))
     }
 
     pub(crate) fn signature(&self) -> Signature<'_>
@@ -188,12 +209,8 @@ impl Parts {
             sorts: sorts.to_vec(heap)?,
             sizes: variable_sizes(self.sizes.as_slice(), sorts),
             guard: None,
-            takes: Side {
-                arcs: Vec::new(heap),
-            },
-            puts: Side {
-                arcs: Vec::new(heap),
-            },
+            takes: Vec::new(heap),
+            puts: Vec::new(heap),
         })?;
         Ok(())
     }
@@ -204,7 +221,7 @@ impl Parts {
     {
         let term = term.to_vec(*self.transitions.allocator())?;
         if let Some(t) = self.transitions.last_mut() {
-            t.guard = Some(term);
+            t.set_guard(term);
         }
         Ok(())
     }
@@ -226,10 +243,7 @@ impl Parts {
     fn add_claim(&mut self, kind: Kind) -> Result<(), AllocError>
         ensures { OnOk result (told_by self.new ≡ add (told_by self.old) (claim (kind_number kind) (kind_modulus kind))) }
     {
-        self.claims.push(Claim {
-            kind,
-            codes: [0; CELLS],
-        })?;
+        self.claims.push(Claim::new(kind))?;
         Ok(())
     }
 

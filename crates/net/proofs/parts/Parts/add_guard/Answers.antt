@@ -1,4 +1,4 @@
-use Rattle.std.proofs.Common.{◌≡◌, ◌<◌, List, vec_items, vec_len, ap, rules}
+use Rattle.std.proofs.Common.{◌≡◌, ◌<◌, List, vec_items, vec_len, ap, ◌∙◌, rules}
 use Rattle.net.specs.Reading.{guarded}
 use Rattle.net.specs.System.{SystemNet, Transition, no_transition, told_by, transition_told}
 use Rattle.net.proofs.Renewed.{told_anew}
@@ -12,4 +12,5 @@ returns-in-Some c =
     let term : vec_items c.in_ok-term.term ≡ c.args.term.now = search rules in
     let t = c.in-Some.t.now in
     ap (λ (xs : List Transition). record n { transitions = xs })
-    (told_anew transition_told (vec_items ts) (vec_len ts) no_transition (guarded c.args.term.now) t _ ts.ok.0 some c.in-Some.ensures.value (ap (λ g. guarded g (transition_told t)) term))
+    (told_anew transition_told (vec_items ts) (vec_len ts) no_transition (guarded c.args.term.now) t _ ts.ok.0 some c.in-Some.ensures.value
+    (c.set_guard.ensures ∙ ap (λ g. guarded g (transition_told t)) term))
