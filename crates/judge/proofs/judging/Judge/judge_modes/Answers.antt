@@ -1,4 +1,4 @@
-use Rattle.std.proofs.Common.{ℕ, ◌+◌, sym, refl, ◌∙◌, subst, arith, below_none, rules}
+use Rattle.std.proofs.Common.{ℕ, ◌+◌, sym, refl, ◌∙◌, subst, arith, below_none}
 use Rattle.judge.specs.Calls.{net_of}
 use Rattle.judge.proofs.Turns.{Turned, firing_few, firing_none, kept, passed}
 use Rattle.judge.proofs.judging.Judge.judge_modes.Goals as goal

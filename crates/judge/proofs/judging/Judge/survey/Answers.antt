@@ -1,5 +1,4 @@
 use Rattle.std.proofs.Common.{◌≡◌, ℕ, ◌<◌, ◌++◌, ◌∷◌, [], length, set, subst, arith, rules, length-take}
-use Rattle.std.proofs.lemmas.Result.{err_from_is_err_and}
 use Rattle.lent.specs.Held.{held, memory}
 use Rattle.judge.specs.Calls.{lent, net_of}
 use Rattle.judge.specs.Surveys.{Added}
