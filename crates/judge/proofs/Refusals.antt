@@ -1,5 +1,5 @@
 -- Why judging a claim is refused. By kind, on memory that fits, a claim of the net never is.
-use Rattle.std.proofs.Common.{◌≡◌, ℕ, ◌<◌, ◌≤◌, length, pos, ◌≤ℤ◌, Ok, Err, Option, Result, sym, refl, ap, ◌∙◌, subst, ⊎_elim, arith}
+use Rattle.std.proofs.Common.{◌≡◌, ℕ, ◌<◌, ◌≤◌, length, pos, ◌≤ℤ◌, Err, Option, Result, sym, refl, ap, ◌∙◌, subst, ⊎_elim, arith}
 use Rattle.domain.specs.Domains.{equal, modulo, never_rises, siphon, turned}
 use Rattle.domain.specs.Meaning.{Meaning}
 use Rattle.domain.specs.declared.kind.Kind.{Kind}
@@ -29,8 +29,7 @@ module _ {V : Type 0} (d : Meaning V) (n : SystemNet) (claim : ℕ) (m k : Memor
   called c = c.3 (subst (AllWeigh d) (sym c.2) all)
 
   pub judged : (r : Result Outcome Fault) → By d n claim m k r → Weighed r
-  judged r (Ok v, (c, q)) e = let p = sym q ∙ e in cc
-  judged r (Err f, (c, q)) e = let p : f ≡ fault.NoWeight = cc in called (subst (λ (x : Fault). Called d n claim m k (Err x)) p c)
+  judged r b e = called (subst (λ (x : Result Outcome Fault). By d n claim m k x) e b)
 
   pub asked : (plain : V → Type 0) (cell : ℕ) (r : Result (Option ℕ) Fault) → Asked d plain n claim cell m k r → Weighed r
   asked plain cell r a e = called (subst (λ (x : Result (Option ℕ) Fault). Asked d plain n claim cell m k x) e a).1
@@ -83,15 +82,11 @@ module _ (n : Net) (claim : ℕ) (m k : Memory) where
 
 -- on memory that fits, judging a claim of the net by kind is refused for no other reason
 module _ (n : SystemNet) (claim : ℕ) (m k : Memory) (fits : Fits m) (there : claim < length n.claims) where
-  only : {V : Type 0} (d : Meaning V) (e : Fault) → Called d n claim m k (Err e) → e ≡ fault.NoWeight
-  only d fault.NoWeight c = refl
-  only d fault.Memory c = absurd (c.0 fits)
-  only d fault.NoClaim c = let z = c.1 in absurd (omega arith)
-  only d e c = absurd c
-
-  by : {V : Type 0} (d : Meaning V) (e : Fault) → By d n claim m k (Err e) → e ≡ fault.NoWeight
-  by d e (Ok r, (c, q)) = cc
-  by d e (Err f, (c, q)) = let p = only d f c in cc
+  by : {V : Type 0} (d : Meaning V) (e : Fault) → Called d n claim m k (Err e) → e ≡ fault.NoWeight
+  by d fault.NoWeight c = refl
+  by d fault.Memory c = absurd (c.0 fits)
+  by d fault.NoClaim c = let z = c.1 in absurd (omega arith)
+  by d e c = absurd c
 
   by_kind : (x : Kind) (e : Fault) → ByKind x n claim m k (Err e) → e ≡ fault.NoWeight
   by_kind kind.Equal e b = by equal e b

@@ -1,10 +1,12 @@
 -- One mode more, and one transition more.
-use Rattle.std.proofs.Common.{◌≡◌, ℕ, zero, suc, ◌+◌, ◌*◌, ◌≤◌, Bool, true, false, cond, List, ℤ, length, sym, refl, ap, ◌∙◌, true≢false, add-one, arith, below_more}
+use Rattle.std.proofs.Common.{◌≡◌, ℕ, zero, suc, ◌+◌, ◌*◌, ◌≤◌, Bool, true, false, cond, List, ℤ, length, sum_by, take, sym, refl, ap, ◌∙◌, true≢false, add-one, arith, below_more}
+use Rattle.std.proofs.lemmas.List.Sums.{sum_by-take-le, sum_by_more}
 use Rattle.domain.specs.Meaning.{Meaning}
+use Rattle.format.specs.Format.{mode_count}
 use Rattle.net.specs.Of.{system}
-use Rattle.net.specs.System.{SystemNet}
+use Rattle.net.specs.System.{SystemNet, no_transition}
 use Rattle.net.specs.declared.net.Net.{Net}
-use Rattle.net.proofs.Every.{few_transitions, modes_in_one}
+use Rattle.net.proofs.Every.{modes_in_all}
 use Rattle.net.specs.Nets.{guard_holds}
 use Rattle.judge.specs.Judged.{Kept, KeptAll, after, before, firing, mode, modes_of, number}
 
@@ -34,14 +36,22 @@ firing_few n t (suc i) = let h = firing_few n t i in let l = one (guard_holds n 
     one true = omega arith
     one false = omega arith
 
-number_few : (n : SystemNet) → ((t : ℕ) → modes_of n t ≤ 65536) → (k : ℕ) → number n k ≤ 65536 * k
+number_few : (n : SystemNet) (k : ℕ) → k ≤ length n.transitions → number n k ≤ sum_by (λ t. mode_count t.sizes) (take k n.transitions)
 unfolding number
-number_few n few zero = omega arith
-number_few n few (suc k) = let h = number_few n few k in let l = firing_few n k (modes_of n k) in let m = few k in omega arith
+number_few n zero h = omega arith
+number_few n (suc k) h =
+    let e = sum_by_more (λ t. mode_count t.sizes) n.transitions k no_transition (omega arith) in
+    let l = firing_few n k (modes_of n k) in
+    let f = number_few n k (omega arith) in
+    omega (arith, rw add-one at e, l, f)
 
 -- in all transitions of a net in memory, few modes have a true guard
 pub number_small : (n : Net) (k : ℕ) → k ≤ length (system n).transitions → number (system n) k ≤ 32 * 65536
-number_small n k h = let l = number_few (system n) (modes_in_one n) k in let t = few_transitions n in omega arith
+number_small n k h =
+    let f = number_few (system n) k h in
+    let l = sum_by-take-le (λ t. mode_count t.sizes) (system n).transitions k in
+    let m = modes_in_all n in
+    omega arith
 
 module _ {V : Type 0} (d : Meaning V) (codes : List ℤ) (n : SystemNet) where
   -- what is known after the first i modes of t

@@ -1,5 +1,5 @@
 -- Judging by kind: the verdict under the kind's domain, without its values.
-use Rattle.std.specs.Prelude.{◌≡◌, ℕ, Ok, Err, Result, ◌≢◌}
+use Rattle.std.specs.Prelude.{ℕ, Ok, Err, Result, ◌≢◌}
 use Rattle.domain.specs.Meaning.{Meaning}
 use Rattle.domain.specs.Domains.{equal, modulo, never_rises, siphon, turned}
 use Rattle.domain.specs.declared.kind.Kind.{Kind}
@@ -9,27 +9,19 @@ use Rattle.term.specs.declared.fault.Fault.TheVariants as fault
 use Rattle.net.specs.System.{SystemNet}
 use Rattle.net.specs.declared.firing.Firing.{Firing}
 use Rattle.judge.specs.Calls.{Called, Memory}
-use Rattle.judge.specs.Judged.{Verdict}
 
 abbrev pub Outcome : Type 0
 Outcome = Result ℕ Firing
-
--- a verdict without its values
-abbrev pub outcome_of : {V : Type 0} → Verdict V → Outcome
-outcome_of (Ok c) = Ok c
-outcome_of (Err x) = Err x.firing
-
-abbrev pub shown : {V : Type 0} → Result (Verdict V) Fault → Result Outcome Fault
-shown (Ok r) = Ok (outcome_of r)
-shown (Err e) = Err e
 
 -- no code is found to be no weight: in every net the codes of a claim are weights of its kind
 abbrev pub Weighed : {A : Type 0} → Result A Fault → Type 0
 Weighed r = r ≢ Err fault.NoWeight
 
--- r is what judging under a domain answers, without its values
+-- what judging under a domain answers, without the values of a broken verdict
 abbrev pub By : {V : Type 0} → Meaning V → SystemNet → ℕ → Memory → Memory → Result Outcome Fault → Type 0
-By {V} d n claim m k r = (v : Result (Verdict V) Fault) × (Called d n claim m k v × (r ≡ shown v))
+By d n claim m k (Ok (Ok c)) = Called d n claim m k (Ok (Ok c))
+By {V} d n claim m k (Ok (Err f)) = (v : V) × ((w : V) × Called d n claim m k (Ok (Err (record { firing = f; before = v; after = w }))))
+By d n claim m k (Err e) = Called d n claim m k (Err e)
 
 -- the domain of each kind
 abbrev pub ByKind : Kind → SystemNet → ℕ → Memory → Memory → Result Outcome Fault → Type 0

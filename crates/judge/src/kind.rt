@@ -19,8 +19,11 @@ impl<'n, 'm> Judge<'n, 'm> {
         ensures by { By (D.meaning d.now) (net_of self.old) claim (lent self.old) (lent self.new) result }
         ensures same { SameLoans self.old self.new }
     {
-        let verdict = self.judge(claim, d)?;
-        Ok(verdict.map_err(|breach| breach.firing))
+        // no `map_err`: its proof stays open
+        match self.judge(claim, d)? {
+            Ok(modes) => Ok(Ok(modes)),
+            Err(breach) => Ok(Err(breach.firing)),
+        }
     }
 
     // Judges a claim by its kind.

@@ -34,10 +34,6 @@ module _ (n : Net) where
   pub modes_in_all : sum_by (λ t. mode_count t.sizes) (system n).transitions ≤ 32 * 65536
   modes_in_all = ∥∥₁_elim n.sound le_prop (λ s. few_modes (system n) s)
 
-  -- there are few transitions
-  pub few_transitions : length (system n).transitions ≤ 32
-  few_transitions = ∥∥₁_elim n.sound le_prop (λ s. s.few_transitions)
-
   -- a transition has few modes
   pub modes_in_one : (t : ℕ) → mode_count (transition (system n) t).sizes ≤ 65536
   modes_in_one t = ∥∥₁_elim n.sound le_prop (λ s. anywhere (λ x. mode_count x.sizes ≤ 65536) (system n).transitions no_transition (λ i d h. (s.transitions i d h).modes) (omega arith) t)
