@@ -7,11 +7,12 @@ use Rattle.term.specs.Worth.{Marking, Weighs, most, value_of}
 use Rattle.term.proofs.Loads.{few_tokens}
 use Rattle.term.proofs.Sums.{value_holds}
 use Rattle.net.specs.declared.net.Net.{Net}
-use Rattle.net.specs.Nets.{arcs_of, bag_of, depth, load, part_load}
+use Rattle.net.specs.Nets.{arcs_of, bag_of, depth}
 use Rattle.net.specs.Of.{system}
 use Rattle.net.specs.Spans.{Arc, span, spans}
 use Rattle.net.specs.System.{SystemNet}
 use Rattle.net.proofs.Every.{short_arcs}
+use Rattle.net.proofs.Sides.{load, part_load}
 
 module _ (n : SystemNet) where
   one_bag : (a : Arc) → most (bag_of n a) ≤ 65025 * span a

@@ -1,11 +1,19 @@
--- One arc more.
+-- What arcs add, and at most how many tokens that is: one arc more.
 use Rattle.std.proofs.Common.{◌≡◌, ℕ, ◌+◌, ◌<◌, List, length, get_or, map, sum_by, take, sym, ap, ◌∙◌}
 use Rattle.std.proofs.lemmas.List.{map_more}
 use Rattle.std.proofs.lemmas.List.Sums.{sum_by_push}
 use Rattle.net.specs.declared.parts.Arc as parts
-use Rattle.net.specs.Nets.{load, part, part_load, side}
+use Rattle.term.specs.Worth.{most}
+use Rattle.net.specs.Nets.{bag_of, part, side}
 use Rattle.net.specs.Spans.{Arc, arc_told}
 use Rattle.net.specs.System.{SystemNet}
+
+-- at most how many tokens an arc adds, and arcs together
+abbrev pub part_load : SystemNet → Arc → ℕ
+part_load n a = most (bag_of n a)
+
+abbrev pub load : SystemNet → List Arc → ℕ
+load n xs = sum_by (part_load n) xs
 
 module _ (xs : List parts.Arc) (i : ℕ) (a : parts.Arc) (h : i < length xs) (is : a ≡ get_or xs i a) where
   -- the sum over what the arcs tell

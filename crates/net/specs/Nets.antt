@@ -7,7 +7,7 @@ use Rattle.format.specs.declared.command.Direction.{Direction}
 use Rattle.format.specs.Format.{place_size}
 use Rattle.term.specs.Meaning.{Bag, count, value}
 use Rattle.term.specs.Prefix.{bag_at, term_at}
-use Rattle.term.specs.Worth.{Marking, most, on_place}
+use Rattle.term.specs.Worth.{Marking, on_place}
 use Rattle.net.specs.declared.parts.Claim.{Claim}
 use Rattle.net.specs.Spans.{Arc, towards}
 use Rattle.net.specs.System.{SystemNet, Transition, no_transition}
@@ -38,14 +38,6 @@ part n m c a = on_place a.place (count n.sig m (bag_of n a)) c
 -- the sum of the bags of arcs, in a mode
 abbrev pub side : SystemNet → List ℕ → List Arc → Marking
 side n m xs c = sum_by (part n m c) xs
-
--- at most how many tokens an arc adds
-abbrev pub part_load : SystemNet → Arc → ℕ
-part_load n a = most (bag_of n a)
-
--- at most how many tokens that is
-abbrev pub load : SystemNet → List Arc → ℕ
-load n xs = sum_by (part_load n) xs
 
 -- what a transition takes in a mode, and what it puts
 abbrev pub taken : SystemNet → ℕ → List ℕ → Marking

@@ -1,11 +1,11 @@
 use Rattle.std.proofs.Common.{List, map, take, refl, ap, ◌∙◌, subst, arith, take_all}
 use Rattle.term.specs.Worth.{Weighs, most}
 use Rattle.term.proofs.Sums.{weighs_after, weighs_alike, weighs_nothing}
-use Rattle.net.specs.Nets.{bag_of, load, part, side}
+use Rattle.net.specs.Nets.{bag_of, part, side}
 use Rattle.net.specs.Of.{system}
 use Rattle.net.specs.Spans.{Arc, arc_told}
 use Rattle.net.proofs.Loaded.{light, weighed}
-use Rattle.net.proofs.Sides.{load_more, side_more}
+use Rattle.net.proofs.Sides.{load, load_more, side_more}
 use Rattle.net.proofs.net.Net.weigh.Goals as goal
 
 pub loop-arc-init : goal.loop-arc-init
