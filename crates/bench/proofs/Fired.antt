@@ -1,5 +1,5 @@
 -- From what is counted cell by cell in memory to firings and their faults.
-use Rattle.std.proofs.Common.{◌≡◌, ℕ, ◌+◌, ◌-◌, ◌^◌, ◌<◌, ◌≤◌, Bool, true, false, ltb, length, Ok, Err, Result, get_or, refl, subst, arith}
+use Rattle.std.proofs.Common.{◌≡◌, ℕ, min, ◌+◌, ◌-◌, ◌^◌, ◌<◌, ◌≤◌, Bool, true, false, ltb, length, Ok, Err, Result, get_or, refl, subst, arith}
 use Rattle.std.proofs.lemmas.Bool.Decides.{nat_tests}
 use Rattle.lent.specs.declared.list.LentList.{LentList}
 use Rattle.term.specs.Worth.{Marking}
@@ -60,6 +60,10 @@ module _ (n : SystemNet) (f : Firing) (k : Counts) (d : Change) (takes : Counted
     enough = λ c l. enough c l (h c l).0;
     new = λ c l. let z = exact c l in let y = new c l (h c l).1 in omega (arith, z, y);
   }
+
+-- what fits sixteen bits is exact where it is held at the largest number of these
+pub unheld : (k : Counts) (d : Change) (b : Marking) → ((c : ℕ) → c < cells → b c ≡ min (changed k d c) (2 ^ 16 - 1)) → (c : ℕ) → c < cells → changed k d c < 2 ^ 16 → b c ≡ changed k d c
+unheld k d b new c l h = let e = new c l in omega (arith, e, h)
 
 -- once a change that was found to fit is made, the counts fit sixteen bits
 pub small-after : (k : Counts) (d : Change) → Checked k d (Ok _) → (b : Marking) → ((c : ℕ) → c < cells → changed k d c < 2 ^ 16 → b c ≡ changed k d c) → Small b

@@ -1,5 +1,5 @@
 -- What the calls of a bench make of the memory that a caller lends, and why they are refused.
-use Rattle.std.specs.Prelude.{◌≡◌, ℕ, ◌+◌, ◌-◌, ◌^◌, ◌<◌, ◌≤◌, true, false, List, [], ◌∷◌, ◌++◌, length, Ok, Err, Result, slice_index, slice_set}
+use Rattle.std.specs.Prelude.{◌≡◌, ℕ, min, ◌+◌, ◌-◌, ◌^◌, ◌<◌, ◌≤◌, true, false, List, [], ◌∷◌, ◌++◌, length, Ok, Err, Result, slice_index, slice_set}
 use Rattle.lent.specs.Held.{held, memory as whole}
 use Rattle.lent.specs.declared.list.LentList.{LentList}
 use Rattle.term.specs.Worth.{Marking}
@@ -121,12 +121,15 @@ BackCalled n l k (Ok u) = (f : Firing) × WentBack n f l k
 BackCalled n l k (Err fault.TrailEmpty) = (l.trail ≡ []) × (k ≡ l)
 BackCalled n l k (Err e) = ⊥
 
--- the newest firing f is taken off the trail, from the memory l to k, whose trail need not lead to the marking: if f did,
--- the marking is the one from before it
+-- what f puts is taken from the marking a, as far as it is there, and what f takes is put back, up to 65,535 in a cell
+abbrev pub Unfired : SystemNet → Firing → Marking → Marking → Type 0
+Unfired n f a b = (c : ℕ) → c < cells → b c ≡ min ((a c - given n f.transition f.mode c) + taken n f.transition f.mode c) 65535
+
+-- the newest firing f is taken off the trail, from the memory l to k, whose trail need not lead to the marking
 pub record Undone (n : SystemNet) (f : Firing) (l k : Lent) : Type 0 where
   pub trail : l.trail ≡ k.trail ++ f ∷ []
   pub memory : k.memory ≡ l.memory
-  pub returns : Returns n f (marking l) (marking k)
+  pub counts : Unfired n f (marking l) (marking k)
 
 -- what a call answers that undoes the newest firing on any trail; a refused one changes nothing
 abbrev pub UndoCalled : SystemNet → Lent → Lent → Result (Unit {0}) Fault → Type 0

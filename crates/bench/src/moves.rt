@@ -2,7 +2,7 @@
 // parts, as a replay is, makes them on those and knows what their lender finds there afterwards.
 ghost use Rattle.std.specs.Prelude.{◌≡◌};
 ghost use Rattle.lent.specs.Held as list;
-ghost use Rattle.bench.specs.Calls.{BackCalled, Begun, Checked, FireCalled, Opened, Returns, Leads, UndoCalled, lent};
+ghost use Rattle.bench.specs.Calls.{BackCalled, Begun, Checked, FireCalled, Leads, Opened, Returns, UndoCalled, Unfired, lent};
 ghost use Rattle.bench.specs.Counted.{loan, tokens};
 ghost use Rattle.bench.specs.Path.{NeverFull};
 ghost use Rattle.net.specs.Of.{system};
@@ -81,6 +81,7 @@ pub fn fire_on(
 
 // Undoes a firing on the counts.
 fn undo(net: &Net, counts: &mut Counts, firing: Firing)
+    ensures counts { Unfired (system net.now) firing (tokens counts.old) (tokens counts.new) }
     ensures returns { Returns (system net.now) firing (tokens counts.old) (tokens counts.new) }
     ensures loan { loan counts.new ≡ loan counts.old }
 {

@@ -1,5 +1,5 @@
 // What judging and firing ask of a net.
-ghost use Rattle.std.specs.Prelude.{◌≡◌, ◌/◌, ◌<◌, ◌≤◌, length, map, MatchOption};
+ghost use Rattle.std.specs.Prelude.{◌≡◌, ◌≢◌, ◌/◌, ◌<◌, ◌≤◌, length, map, MatchOption};
 ghost use Rattle.term.specs.Meaning.{of};
 ghost use Rattle.term.specs.Worth.{value_of};
 ghost use Rattle.domain.specs.Meaning.{Tells};
@@ -81,6 +81,7 @@ impl Net {
     pub fn write_codes(&self, claim: usize, codes: &mut [i32])
         ensures written { claim < length (system self.now).claims → length codes.old ≡ 1024 → codes.new ≡ codes_of (system self.now) claim }
         ensures none { length (system self.now).claims ≤ claim → codes.new ≡ codes.old }
+        ensures other { length codes.old ≢ 1024 → codes.new ≡ codes.old }
     {
         if let Some(claim) = self.parts.claims.get(claim)
             && codes.len() == CELLS

@@ -3,7 +3,7 @@ use Rattle.std.proofs.lemmas.Result.{err_from_is_err_and}
 use Rattle.net.specs.Runs.{Fires}
 use Rattle.bench.specs.Calls.{FireCalled, lent}
 use Rattle.bench.specs.Counted.{tokens}
-use Rattle.bench.proofs.Fired.{fires, never-full, refused, roomy, small-after}
+use Rattle.bench.proofs.Fired.{fires, never-full, refused, roomy, small-after, unheld}
 use Rattle.bench.proofs.Walks.{more}
 use Rattle.bench.proofs.moves.fire_on.Goals as goal
 use Rattle.net.specs.Of.{system}
@@ -26,7 +26,7 @@ returns-in_err-checked-clause-never_full c = λ led.
 fired : (c : After-shift) → Fires (system c.args.net.now) c.args.firing.transition c.args.firing.mode (tokens c.args.counts.now) (tokens c.shift.new.self)
 fired c =
     let four : length c.args.firing.mode ≡ 4 = search rules in
-    fires (system c.args.net.now) c.args.firing c.args.counts.now c.of-change.result c.of-change.ensures.takes c.of-change.ensures.puts c.in_ok-opened.ensures four c.in_ok-checked.ensures (tokens c.shift.new.self) c.shift.ensures.shifted
+    fires (system c.args.net.now) c.args.firing c.args.counts.now c.of-change.result c.of-change.ensures.takes c.of-change.ensures.puts c.in_ok-opened.ensures four c.in_ok-checked.ensures (tokens c.shift.new.self) (unheld c.args.counts.now c.of-change.result (tokens c.shift.new.self) c.shift.ensures.shifted)
 
 pub returns-in-Ok-clause-called : goal.returns-in-Ok-clause-called
 returns-in-Ok-clause-called c =
@@ -34,7 +34,7 @@ returns-in-Ok-clause-called c =
 
 pub returns-in-Ok-clause-leads : goal.returns-in-Ok-clause-leads
 returns-in-Ok-clause-leads c = λ led.
-    let low = small-after c.args.counts.now c.of-change.result c.in_ok-checked.ensures (tokens c.shift.new.self) c.shift.ensures.shifted in
+    let low = small-after c.args.counts.now c.of-change.result c.in_ok-checked.ensures (tokens c.shift.new.self) (unheld c.args.counts.now c.of-change.result (tokens c.shift.new.self) c.shift.ensures.shifted) in
     more (system c.args.net.now) _ _ c.args.firing (tokens c.args.counts.now) (tokens c.shift.new.self) c.in-Ok.ensures.cases.0 (fired (goal.at.returns-in-Ok-clause-leads c).After-shift) low led
 
 pub returns-in-Err-clause-called : goal.returns-in-Err-clause-called
