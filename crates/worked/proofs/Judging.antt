@@ -4,11 +4,16 @@ use Rattle.domain.specs.Meaning.{Laws, Meaning, Tells}
 use Rattle.net.specs.Nets.{given, guard_holds, taken}
 use Rattle.net.specs.System.{SystemNet}
 use Rattle.judge.specs.Judged.{First, Judged, Kept, KeptAll, Verdict, after, before, firing, mode, modes_of, number}
-use Rattle.judge.specs.Kinds.{outcome_of}
+use Rattle.judge.specs.Kinds.{Outcome}
 use Rattle.judge.specs.declared.verdict.Breach.{Breach}
 use Rattle.worked.specs.Rows.{broken, verdict_shown}
 use Rattle.worked.proofs.First.{IsFirst, first, first_is, order}
 use Rattle.worked.proofs.Values.{worth, worth_is}
+
+-- a verdict without its values
+abbrev pub outcome_of : {V : Type 0} → Verdict V → Outcome
+outcome_of (Ok c) = Ok c
+outcome_of (Err x) = Err x.firing
 
 module _ {V : Type 0} (d : Meaning V) (rel : V → V → Bool) (codes : List ℤ) (n : SystemNet) where
   abbrev keeps : ℕ → List ℕ → Bool

@@ -13,11 +13,11 @@ use Rattle.net.specs.Nets.{claim_of, codes_of, given, taken}
 use Rattle.net.specs.System.{SystemNet}
 use Rattle.judge.specs.Calls.{AllWeigh, Called, Fits, Left, Memory, none}
 use Rattle.judge.specs.Judged.{Judged, Verdict}
-use Rattle.judge.specs.Kinds.{By, ByKind, Outcome, outcome_of, shown}
+use Rattle.judge.specs.Kinds.{By, ByKind, Outcome}
 use Rattle.judge.proofs.Markings.{exactly, keeps, right}
 use Rattle.worked.specs.Rows.{Answer, Shows, verdict_shown}
 use Rattle.worked.proofs.Decided.{Values, domain_of, laws_of, related, related_tells}
-use Rattle.worked.proofs.Judging.{judged, only_one, verdict}
+use Rattle.worked.proofs.Judging.{judged, only_one, verdict, outcome_of}
 
 -- what a row says, where an answer was computed
 abbrev pub Sound : (Answer → Type 0) → Option Answer → Type 0
@@ -95,16 +95,32 @@ module _ {V : Type 0} {d : Meaning V} (laws : Laws d) (n : SystemNet) (claim : �
         ),
       )
 
-  -- a result that the call can answer shows the verdict
-  called_only : (k : Memory) (w : Result (Verdict V) Fault) → Called d n claim m k w → verdict_shown (Ok (outcome_of v)) ≡ verdict_shown (shown w)
-  called_only k (Ok u) c = only_one d (codes_of n claim) n v u j (subst (λ (x : List ℤ). Judged d x n u) c.2 c.4.judged)
-  called_only k (Err fault.Memory) c = absurd (c.0 fits)
-  called_only k (Err fault.NoClaim) c = let h = c.1 in absurd (omega arith)
-  called_only k (Err fault.NoWeight) c = absurd (c.3 (subst (AllWeigh d) (sym c.2) all))
-  called_only k (Err e) c = absurd c
+  -- by kind it can answer the verdict without its values
+  by_called : (k : Memory) → Called d n claim m k (Ok v) → By d n claim m k (Ok (outcome_of v))
+  by_called k = without v
+    where
+      without : (u : Verdict V) → Called d n claim m k (Ok u) → By d n claim m k (Ok (outcome_of u))
+      without (Ok c) h = h
+      without (Err x) h = (x.before, (x.after, h))
+
+  pub by_some : (k : Memory) × By d n claim m k (Ok (outcome_of v))
+  by_some = (called.0, by_called called.0 called.1)
+
+  -- a verdict that the call can answer is this one, but for its values
+  same_outcome : (k : Memory) (u : Verdict V) → Called d n claim m k (Ok u) → verdict_shown (Ok (outcome_of v)) ≡ verdict_shown (Ok (outcome_of u))
+  same_outcome k u c = only_one d (codes_of n claim) n v u j (subst (λ (x : List ℤ). Judged d x n u) c.2 c.4.judged)
+
+  -- and no fault
+  never_refused : (k : Memory) (e : Fault) → Called d n claim m k (Err e) → ⊥
+  never_refused k fault.Memory c = c.0 fits
+  never_refused k fault.NoClaim c = let h = c.1 in let z : ⊥ = omega arith in z
+  never_refused k fault.NoWeight c = c.3 (subst (AllWeigh d) (sym c.2) all)
+  never_refused k e c = absurd c
 
   by_only : (k : Memory) (r : Result Outcome Fault) → By d n claim m k r → verdict_shown (Ok (outcome_of v)) ≡ verdict_shown r
-  by_only k r b = called_only k b.0 b.1.0 ∙ ap verdict_shown (sym b.1.1)
+  by_only k (Ok (Ok c)) b = same_outcome k (Ok c) b
+  by_only k (Ok (Err f)) b = same_outcome k (Err (record { firing = f; before = b.0; after = b.1.0 })) b.1.1
+  by_only k (Err e) b = absurd (never_refused k e b)
 
 -- judging by kind is judging under the kind's domain
 by_kind : (x : Kind) (n : SystemNet) (claim : ℕ) (m k : Memory) (r : Result Outcome Fault) → ByKind x n claim m k r ≡ By (domain_of x) n claim m k r
@@ -142,7 +158,7 @@ judging_sound n claim = by_claim (ltb claim (length n.claims)) refl
         shows (λ z m k r. ByKind z n claim m k r) verdict_shown n claim h (λ m k r. By (domain_of x) n claim m k r)
         (λ m k r. ap (λ (z : Kind). ByKind z n claim m k r) (sym is) ∙ by_kind x n claim m k r)
         (Ok (outcome_of v))
-        (λ m fits. let k = called (laws_of x) n claim h f.0 f.1 v j m fits in (k.0, (Ok v, (k.1, refl))))
+        (λ m fits. by_some (laws_of x) n claim h f.0 f.1 v j m fits)
         (λ m k r fits b. by_only (laws_of x) n claim h f.0 f.1 v j m fits k r b)
 
     by_claim : (b : Bool) → ltb claim (length n.claims) ≡ b → Sound (Judging n claim) (cond b (answer_by n claim (kind_at n claim)) None)
