@@ -98,6 +98,9 @@ module _ (n : SystemNet) where
   further a [] x t m b p h = (b, (fires-from t m a x b p h, λ c h. refl))
   further a (f ∷ fs) x t m b p h = (p.0, (p.1.0, further p.0 fs x t m b p.1.1 h))
 
+  pub small : (fs : List Firing) (b : Marking) → Led n fs b → Small b
+  small fs b p = λ c h. ∥∥₁_elim p le_prop (λ q. small-last (initial n) fs b q c h)
+
   pub reachable : (fs : List Firing) (b : Marking) → Led n fs b → Reachable n b
   reachable fs b p = (steps fs, run (initial n) fs b p)
 

@@ -5,6 +5,7 @@ use Rattle.term.specs.Worth.{Marking}
 use Rattle.term.specs.declared.fault.Fault.{Fault}
 use Rattle.term.specs.declared.fault.Fault.TheVariants.{Full}
 use Rattle.net.specs.declared.firing.Firing.{Firing}
+use Rattle.net.specs.Nets.{HasCell}
 use Rattle.net.specs.System.{SystemNet}
 use Rattle.net.specs.Runs.{Bounded, Fires, cells, initial}
 
@@ -25,10 +26,10 @@ Path n a (f ∷ fs) b = (x : Marking) × (Fires n f.transition f.mode a x × Sma
 abbrev pub Led : SystemNet → List Firing → Marking → Type 0
 Led n fs b = ∥ Path n (initial n) fs b ∥₁
 
--- every cell has a bound that a bench can hold
+-- every cell of the net has a bound that a bench can hold
 abbrev pub Holdable : SystemNet → Type 0
-Holdable n = (c : ℕ) → c < cells → (k : ℕ) × (k ≤ 65535) × Bounded n c k
+Holdable n = (c : ℕ) → HasCell n c → (k : ℕ) × (k ≤ 65535) × Bounded n c k
 
--- where every cell has such a bound, no cell is found full
+-- where every cell of the net has such a bound, no cell is found full
 abbrev pub NeverFull : SystemNet → Result (Unit {0}) Fault → Type 0
 NeverFull n r = Holdable n → (c : ℕ) → r ≢ Err (Full c)

@@ -21,7 +21,7 @@ pub returns-in_err-checked-clause-never_full : goal.returns-in_err-checked-claus
 returns-in_err-checked-clause-never_full c = λ led.
     let four : length c.args.firing.mode ≡ 4 = search rules in
     let l = lent c.args.counts.now c.args.trail.now in
-    never-full (system c.args.net.now) c.args.firing l l c.from_residual-in_err-checked.result four (why c) led
+    never-full c.args.net.now c.args.firing l l c.from_residual-in_err-checked.result four (why c) led
 
 fired : (c : After-shift) → Fires (system c.args.net.now) c.args.firing.transition c.args.firing.mode (tokens c.args.counts.now) (tokens c.shift.new.self)
 fired c =
