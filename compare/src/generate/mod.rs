@@ -1,6 +1,7 @@
 //! Nets and traces to compare on, all of them reproducible from a seed.
 
 pub mod claims;
+pub mod cost;
 pub mod damage;
 pub mod draft;
 pub mod large;

@@ -1,38 +1,38 @@
 -- From what is counted cell by cell in memory to firings and their faults.
-use Rattle.std.proofs.Common.{◌≡◌, ℕ, ◌+◌, ◌-◌, ◌^◌, ◌<◌, ◌≤◌, Bool, true, false, ltb, length, Ok, Err, Result, get_or, refl, subst, arith}
+use Rattle.std.proofs.Common.{◌≡◌, ℕ, min, ◌+◌, ◌-◌, ◌/◌, ◌%◌, ◌^◌, ◌<◌, ◌≤◌, Bool, true, false, ltb, length, Ok, Err, Result, get_or, refl, subst, ⊎_elim, arith}
+use Rattle.std.proofs.lemmas.Bool.{cases_lt}
 use Rattle.std.proofs.lemmas.Bool.Decides.{nat_tests}
+use Rattle.format.specs.Format.{place_size}
+use Rattle.format.specs.declared.command.Direction.TheVariants as direction
 use Rattle.lent.specs.declared.list.LentList.{LentList}
 use Rattle.term.specs.Worth.{Marking}
 use Rattle.term.specs.declared.fault.Fault.{Fault}
 use Rattle.term.specs.declared.fault.Fault.TheVariants as fault
 use Rattle.net.specs.declared.firing.Firing.{Firing}
+use Rattle.net.specs.System.{SystemNet}
+use Rattle.net.specs.Nets.{HasCell, given, taken}
+use Rattle.net.specs.Of.{system}
+use Rattle.net.specs.Runs.{Bounded, Counted, Fires, cells}
 use Rattle.net.specs.declared.net.Net.{Net}
-use Rattle.net.specs.Nets.{given, taken}
-use Rattle.net.specs.Runs.{Fires, cells}
+use Rattle.net.proofs.Every.{untouched}
 use Rattle.bench.specs.Calls.{Checked, FireCalled, FireRefused, Lacking, Lent, Lowest, Nowhere, Open, Passing, Roomy, lent, marking}
-use Rattle.bench.specs.Counted.{Counted, changed, tokens}
-use Rattle.bench.specs.Path.{NeverFull, Small}
+use Rattle.bench.specs.Counted.{changed, tokens}
+use Rattle.bench.specs.Path.{Holdable, Led, NeverFull, Small}
 use Rattle.bench.specs.declared.change.Change.{Change}
 use Rattle.bench.specs.declared.counts.Counts.{Counts}
-use Rattle.bench.proofs.Walks.{Led, reachable-next}
+use Rattle.bench.proofs.Walks.{reachable-next, small}
 
--- what is known of a change that a firing makes, on counts that fit sixteen bits
-pub record Sized (n : Net) (f : Firing) (k : Counts) (d : Change) : Type 0 where
-  pub takes : Counted d.takes (taken n f.transition f.mode)
-  pub puts : Counted d.puts (given n f.transition f.mode)
-  pub small : Small (tokens k)
-
-module _ {n : Net} {f : Firing} {k : Counts} {d : Change} (s : Sized n f k d) where
+module _ (n : SystemNet) (f : Firing) (k : Counts) (d : Change) (takes : Counted d.takes (taken n f.transition f.mode)) (puts : Counted d.puts (given n f.transition f.mode)) where
   enough : (c : ℕ) → c < 1024 → get_or d.takes c 0 ≤ tokens k c → taken n f.transition f.mode c ≤ tokens k c
-  enough c l h = let e = s.takes c l in let z = s.small c l in omega (arith, e, z, h)
+  enough c l h = let e = takes c l in omega (arith, e, h)
 
-  exact : (c : ℕ) → c < 1024 → changed k d c < 2 ^ 16 → changed k d c ≡ tokens k c - taken n f.transition f.mode c + given n f.transition f.mode c
-  exact c l h = let e = s.takes c l in let g = s.puts c l in let z = s.small c l in omega (arith, e, g, z, h)
+  exact : (c : ℕ) → c < 1024 → changed k d c ≡ tokens k c - taken n f.transition f.mode c + given n f.transition f.mode c
+  exact c l = let e = takes c l in let g = puts c l in omega (arith, e, g)
 
   lacks : (c : ℕ) → Checked k d (Err (fault.Lacks c)) → Lowest (Lacking n f (tokens k)) c
   lacks c h = record {
     within = h.0;
-    here = let e = s.takes c h.0 in let z = h.1 in omega (arith, e, z);
+    here = let e = takes c h.0 in let z = h.1 in omega (arith, e, z);
     lower = λ i l p. let m : i < 1024 = omega (arith, l, h.0) in let z = enough i m (h.2 i l) in omega (arith, z, p);
   }
 
@@ -40,12 +40,12 @@ module _ {n : Net} {f : Firing} {k : Counts} {d : Change} (s : Sized n f k d) wh
   none-lacks h c l p = let z = enough c l (h c l) in omega (arith, z, p)
 
   none-passes : (c : ℕ) → c < cells → changed k d c < 2 ^ 16 → Passing n f (tokens k) c → ⊥
-  none-passes c l h p = let z = exact c l h in omega (arith, z, p, h)
+  none-passes c l h p = let z = exact c l in omega (arith, z, p, h)
 
   passes : (c : ℕ) → Checked k d (Err (fault.Full c)) → Lowest (Passing n f (tokens k)) c
   passes c h = record {
     within = h.1;
-    here = let e = s.takes c h.1 in let g = s.puts c h.1 in let z = s.small c h.1 in let y = h.2 in omega (arith, e, g, z, y);
+    here = let z = exact c h.1 in let y = h.2 in omega (arith, z, y);
     lower = λ i l p. let m : i < 1024 = omega (arith, l, h.1) in none-passes i m (h.3 i l) p;
   }
 
@@ -64,31 +64,62 @@ module _ {n : Net} {f : Firing} {k : Counts} {d : Change} (s : Sized n f k d) wh
     mode = o.mode;
     guard = o.guard;
     enough = λ c l. enough c l (h c l).0;
-    new = λ c l. let z = exact c l (h c l).1 in let y = new c l (h c l).1 in omega (arith, z, y);
+    new = λ c l. let z = exact c l in let y = new c l (h c l).1 in omega (arith, z, y);
   }
 
-  pub small-after : Checked k d (Ok _) → (b : Marking) → ((c : ℕ) → c < cells → changed k d c < 2 ^ 16 → b c ≡ changed k d c) → Small b
-  small-after h b new c l = let z = (h c l).1 in let y = new c l (h c l).1 in omega (arith, z, y)
+-- what fits sixteen bits is exact where it is held at the largest number of these
+pub unheld : (k : Counts) (d : Change) (b : Marking) → ((c : ℕ) → c < cells → b c ≡ min (changed k d c) (2 ^ 16 - 1)) → (c : ℕ) → c < cells → changed k d c < 2 ^ 16 → b c ≡ changed k d c
+unheld k d b new c l h = let e = new c l in omega (arith, e, h)
 
--- every firing that is held up by nothing else has a bound, so no cell is full
-pub never-full : (n : Net) (f : Firing) (l k : Lent) (r : Result (Unit {0}) Fault) → length f.mode ≡ 4 → FireCalled n f l k r → Led n l.trail (marking l) → NeverFull n r
-never-full n f l k r four h p bounds c is =
-    let t = f.transition in
-    let m = f.mode in
-    let why : FireRefused n f l (fault.Full c) = (subst (λ (x : Result (Unit {0}) Fault). FireCalled n f l k x) is h).0 in
-    let o = why.0 in
-    let b : Marking = λ x. marking l x - taken n t m x + given n t m x in
-    let fires : Fires n t m (marking l) b
-    = record { there = o.there; four = four; mode = o.mode; guard = o.guard; enough = λ x i. enough x (why.1 x i); new = λ x i. refl } in
-    let limit = bounds c why.2.within in
-    let low = limit.2 b (reachable-next n l.trail (marking l) p t m b fires) in
-    let high = why.2.here in
-    let most = limit.1 in
-    omega arith
-  where
-    enough : (x : ℕ) → (marking l x < taken n f.transition f.mode x → ⊥) → taken n f.transition f.mode x ≤ marking l x
-    enough x not = by (ltb (marking l x) (taken n f.transition f.mode x)) refl
-      where
-        by : (b : Bool) → ltb (marking l x) (taken n f.transition f.mode x) ≡ b → taken n f.transition f.mode x ≤ marking l x
-        by true i = absurd (not (grind (arith, nat_tests, i)))
-        by false i = grind (arith, nat_tests, i)
+-- once a change that was found to fit is made, the counts fit sixteen bits
+pub small-after : (k : Counts) (d : Change) → Checked k d (Ok _) → (b : Marking) → ((c : ℕ) → c < cells → changed k d c < 2 ^ 16 → b c ≡ changed k d c) → Small b
+small-after k d h b new c l = let z = (h c l).1 in let y = new c l (h c l).1 in omega (arith, z, y)
+
+-- why a cell is found full, where the trail leads to the marking
+module _ (net : Net) (f : Firing) (l : Lent) (p : Led (system net) l.trail (marking l)) (c : ℕ) (why : FireRefused (system net) f l (fault.Full c)) where
+  abbrev n : SystemNet
+  n = system net
+
+  least : (x y : ℕ) → (x < y → ⊥) → y ≤ x
+  least x y not = by (ltb x y) refl
+    where
+      by : (b : Bool) → ltb x y ≡ b → y ≤ x
+      by true i = absurd (not (grind (arith, nat_tests, i)))
+      by false i = grind (arith, nat_tests, i)
+
+  -- not where it has a bound that a bench can hold: held up by nothing else, the firing would lead within it
+  in-bounds : length f.mode ≡ 4 → (k : ℕ) → k ≤ 65535 → Bounded n c k → ⊥
+  in-bounds four k most limit =
+      let t = f.transition in
+      let m = f.mode in
+      let o = why.0 in
+      let b : Marking = λ x. marking l x - taken n t m x + given n t m x in
+      let fires : Fires n t m (marking l) b
+      = record { there = o.there; four = four; mode = o.mode; guard = o.guard; enough = λ x i. least (marking l x) (taken n t m x) (why.1 x i); new = λ x i. refl } in
+      let low = limit b (reachable-next n l.trail (marking l) p t m b fires) in
+      let high = why.2.here in
+      let z : ⊥ = omega arith in
+      z
+
+  -- not where the net has no cell: no arc touches it
+  outside : (HasCell n c → ⊥) → ⊥
+  outside lacks =
+      let o = why.0 in
+      let x : taken n f.transition f.mode c ≡ 0 = untouched net f.mode f.transition c direction.In o.there o.mode why.2.within lacks in
+      let y : given n f.transition f.mode c ≡ 0 = untouched net f.mode f.transition c direction.Out o.there o.mode why.2.within lacks in
+      let s = small n l.trail (marking l) p c why.2.within in
+      let high = why.2.here in
+      let z : ⊥ = omega (arith, x, y, s, high) in
+      z
+
+  nowhere : length f.mode ≡ 4 → Holdable n → ⊥
+  nowhere four bounds = ⊎_elim
+      (λ (h : c % 64 < place_size n.sig.sizes n.places (c / 64)).
+      let b = bounds c (record { within = why.2.within; element = h }) in
+      in-bounds four b.0 b.1 b.2)
+      (λ (h : place_size n.sig.sizes n.places (c / 64) ≤ c % 64). outside (λ x. let e = x.element in let z : ⊥ = omega (arith, e, h) in z))
+      (cases_lt (c % 64) (place_size n.sig.sizes n.places (c / 64)))
+
+pub never-full : (net : Net) (f : Firing) (l k : Lent) (r : Result (Unit {0}) Fault) → length f.mode ≡ 4 → FireCalled (system net) f l k r → Led (system net) l.trail (marking l) → NeverFull (system net) r
+never-full net f l k r four h p bounds c is =
+    nowhere net f l p c (subst (λ (x : Result (Unit {0}) Fault). FireCalled (system net) f l k x) is h).0 four bounds

@@ -6,11 +6,11 @@ use native.Mathlib.Bridge.{le_prop}
 use native.Mathlib.Nat.{ℕ_set}
 use Rattle.term.specs.Worth.{Marking}
 use Rattle.net.specs.declared.firing.Firing.{Firing}
-use Rattle.net.specs.declared.net.Net.{Net}
+use Rattle.net.specs.System.{SystemNet}
 use Rattle.net.specs.Nets.{given, taken}
 use Rattle.net.specs.Runs.{Reachable, Fires, Run, initial}
 use Rattle.bench.specs.Calls.{Returns}
-use Rattle.bench.specs.Path.{Alike, Path, Small}
+use Rattle.bench.specs.Path.{Alike, Led, Path, Small}
 
 -- the same firings as those of a run: transitions and modes
 abbrev pub steps : List Firing → List (ℕ × List ℕ)
@@ -19,7 +19,7 @@ steps fs = map (λ f. (f.transition, f.mode)) fs
 small-from : (a b : Marking) → Alike a b → Small b → Small a
 small-from a b e s c h = let z = e c h in let y = s c h in omega arith
 
-module _ (n : Net) where
+module _ (n : SystemNet) where
   fires-from : (t : ℕ) (m : List ℕ) (a b x : Marking) → Alike a b → Fires n t m b x → Fires n t m a x
   fires-from t m a b x e f = record {
     there = f.there;
@@ -98,21 +98,17 @@ module _ (n : Net) where
   further a [] x t m b p h = (b, (fires-from t m a x b p h, λ c h. refl))
   further a (f ∷ fs) x t m b p h = (p.0, (p.1.0, further p.0 fs x t m b p.1.1 h))
 
-  -- what is known of a marking that a path from the initial one leads to
-  abbrev pub Led : List Firing → Marking → Type 0
-  Led fs b = ∥ Path n (initial n) fs b ∥₁
-
-  pub small : (fs : List Firing) (b : Marking) → Led fs b → Small b
+  pub small : (fs : List Firing) (b : Marking) → Led n fs b → Small b
   small fs b p = λ c h. ∥∥₁_elim p le_prop (λ q. small-last (initial n) fs b q c h)
 
-  pub reachable : (fs : List Firing) (b : Marking) → Led fs b → Reachable n b
+  pub reachable : (fs : List Firing) (b : Marking) → Led n fs b → Reachable n b
   reachable fs b p = (steps fs, run (initial n) fs b p)
 
   -- one firing later, too
-  pub reachable-next : (fs : List Firing) (a : Marking) → Led fs a → (t : ℕ) (m : List ℕ) (b : Marking) → Fires n t m a b → Reachable n b
+  pub reachable-next : (fs : List Firing) (a : Marking) → Led n fs a → (t : ℕ) (m : List ℕ) (b : Marking) → Fires n t m a b → Reachable n b
   reachable-next fs a p t m b f = (steps fs ++ (t, m) ∷ [], further (initial n) (steps fs) a t m b (run (initial n) fs a p) f)
 
-  pub more : (fs gs : List Firing) (f : Firing) (a b : Marking) → gs ≡ fs ++ f ∷ [] → Fires n f.transition f.mode a b → Small b → Led fs a → Led gs b
+  pub more : (fs gs : List Firing) (f : Firing) (a b : Marking) → gs ≡ fs ++ f ∷ [] → Fires n f.transition f.mode a b → Small b → Led n fs a → Led n gs b
   more fs gs f a b e h s p =
       ∥∥₁_elim p ∥∥₁_prop (λ q. rw e (∣ join (initial n) fs (f ∷ []) a b q (one f a b h (small-last (initial n) fs a q) s) ∣₁))
 
@@ -126,11 +122,11 @@ module _ (n : Net) where
       let r = q.1.1 in
       (q.0, (q.1.0, fires-to f.transition f.mode q.0 r.0 b r.1.2.0 r.1.0))
 
-  module _ (fs gs : List Firing) (f : Firing) (b x : Marking) (e : fs ≡ gs ++ f ∷ []) (h : Returns n f b x) (p : Led fs b) where
+  module _ (fs gs : List Firing) (f : Firing) (b x : Marking) (e : fs ≡ gs ++ f ∷ []) (h : Returns n f b x) (p : Led n fs b) where
     is : (l : Last gs f b) → Alike x l.0
-    is l = h l.0 (small-last (initial n) gs l.0 l.1.0) (small fs b p) l.1.1
+    is l = h l.0 (small-last (initial n) gs l.0 l.1.0) l.1.1
 
-    pub led-back : Led gs x
+    pub led-back : Led n gs x
     led-back = ∥∥₁_elim p ∥∥₁_prop (λ q. let l = last fs gs f b e q in ∣ path-to (initial n) gs l.0 x (λ c h. sym (is l c h)) l.1.0 ∣₁)
 
     pub fired-back : Fires n f.transition f.mode x b

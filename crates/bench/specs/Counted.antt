@@ -1,6 +1,5 @@
 -- The marking that lent counts hold, and what a change makes of it.
-use Rattle.std.specs.Prelude.{◌≡◌, ℕ, ◌+◌, ◌-◌, ◌^◌, ◌<◌, min, List, slice_index}
-use Rattle.term.specs.Worth.{Marking}
+use Rattle.std.specs.Prelude.{ℕ, ◌+◌, ◌-◌, slice_index}
 use Rattle.bench.specs.declared.change.Change.{Change}
 use Rattle.bench.specs.declared.counts.Counts.{Counts}
 
@@ -10,10 +9,6 @@ tokens k c = slice_index k.cells.now c
 -- the loan that the counts are, by which their lender gets them back
 abbrev pub loan : Counts → ℕ
 loan k = k.cells.ghost_name
-
--- numbers are those of a marking, each held at the largest number of 32 bits
-abbrev pub Counted : List ℕ → Marking → Type 0
-Counted ns a = (c : ℕ) → c < 1024 → slice_index ns c ≡ min (a c) (2 ^ 32 - 1)
 
 -- what a cell has once the tokens of a change are taken and put
 abbrev pub changed : Counts → Change → ℕ → ℕ

@@ -5,8 +5,9 @@ use Rattle.term.specs.Worth.{Marking}
 use Rattle.term.specs.declared.fault.Fault.{Fault}
 use Rattle.term.specs.declared.fault.Fault.TheVariants.{Full}
 use Rattle.net.specs.declared.firing.Firing.{Firing}
-use Rattle.net.specs.declared.net.Net.{Net}
-use Rattle.net.specs.Runs.{Bounded, Fires, cells}
+use Rattle.net.specs.Nets.{HasCell}
+use Rattle.net.specs.System.{SystemNet}
+use Rattle.net.specs.Runs.{Bounded, Fires, cells, initial}
 
 -- no cell holds more than 65,535
 abbrev pub Small : Marking → Type 0
@@ -17,14 +18,18 @@ abbrev pub Alike : Marking → Marking → Type 0
 Alike a b = (c : ℕ) → c < cells → a c ≡ b c
 
 -- the firings lead, one after the other, from a to b, over markings that fit sixteen bits
-abbrev pub Path : Net → Marking → List Firing → Marking → Type 0
+abbrev pub Path : SystemNet → Marking → List Firing → Marking → Type 0
 Path n a [] b = Alike a b × Small b
 Path n a (f ∷ fs) b = (x : Marking) × (Fires n f.transition f.mode a x × Small a × Path n x fs b)
 
--- every cell has a bound that a bench can hold
-abbrev pub Holdable : Net → Type 0
-Holdable n = (c : ℕ) → c < cells → (k : ℕ) × (k ≤ 65535) × Bounded n c k
+-- the firings lead from the initial marking to b
+abbrev pub Led : SystemNet → List Firing → Marking → Type 0
+Led n fs b = ∥ Path n (initial n) fs b ∥₁
 
--- where every cell has such a bound, no cell is found full
-abbrev pub NeverFull : Net → Result (Unit {0}) Fault → Type 0
+-- every cell of the net has a bound that a bench can hold
+abbrev pub Holdable : SystemNet → Type 0
+Holdable n = (c : ℕ) → HasCell n c → (k : ℕ) × (k ≤ 65535) × Bounded n c k
+
+-- where every cell of the net has such a bound, no cell is found full
+abbrev pub NeverFull : SystemNet → Result (Unit {0}) Fault → Type 0
 NeverFull n r = Holdable n → (c : ℕ) → r ≢ Err (Full c)

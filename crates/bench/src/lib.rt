@@ -4,9 +4,11 @@
 pub mod bench;
 pub mod change;
 pub mod counts;
+pub mod moves;
 
 pub use bench::Bench;
 pub use change::Change;
 pub use counts::Counts;
 pub use counts::methods::measure;
+pub use moves::{back_on, begin_on, fire_on};
 pub use net::Firing;

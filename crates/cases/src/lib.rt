@@ -1,14 +1,6 @@
-// Examples of nets, claims, firings and traces, with their exact answers.
+// Files of nets, as hexadecimal digits, and which of them read.
 #![tactic(auto)]
 
-#[cfg(test)]
-mod firing;
-#[cfg(test)]
-mod judging;
 pub mod nets;
 #[cfg(test)]
 mod reading;
-#[cfg(test)]
-mod recordings;
-#[cfg(test)]
-mod traces;

@@ -86,6 +86,6 @@ pub fn net_of(heap: Global, file: &[u8]) -> Result<Net, ReadError> {
 }
 
 // The number of a refusal, 0 where there is none.
-pub(crate) fn number(answer: Result<(), Fault>) -> u8 {
+pub fn number(answer: Result<(), Fault>) -> u8 {
     answer.err().map_or(0, |fault| fault.number())
 }

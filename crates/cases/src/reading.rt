@@ -38,7 +38,7 @@ fn check_reads(rt: &impl Abort, at: &str, heap: Global, file: &[u8]) -> Result<(
 }
 
 // The small net with the bytes from one place up to another replaced.
-const CHANGES: [(usize, usize, &str, u8, usize, Stage); 18] = [
+const CHANGES: &[(usize, usize, &str, u8, usize, Stage)] = &[
     (0, 86, "", 2, 0, Command),
     (0, 1, "0E", 3, 0, Command),
     (0, 1, "20", 3, 0, Command),
@@ -61,7 +61,7 @@ const CHANGES: [(usize, usize, &str, u8, usize, Stage); 18] = [
 
 #[test]
 fn changes_of_the_small_net(rt: HostRuntime) -> Result<(), Fail> {
-    for (from, to, with, number, place, stage) in CHANGES {
+    for &(from, to, with, number, place, stage) in CHANGES {
         let file = changed(rt.alloc(), from, to, with)?;
         check_fault(
             &rt,
@@ -94,7 +94,7 @@ fn a_cut_off_file_lacks_its_next_byte(rt: HostRuntime) -> Result<(), Fail> {
 }
 
 // Commands that stand wrongly, or with an operand out of range.
-const COMMANDS: [(&str, u8, usize, Stage); 73] = [
+const COMMANDS: &[(&str, u8, usize, Stage)] = &[
     ("00", 3, 0, Command),
     ("0D", 3, 0, Command),
     ("10", 3, 0, Command),
@@ -150,6 +150,8 @@ const COMMANDS: [(&str, u8, usize, Stage); 73] = [
     ("0140 0603010101", 2, 7, Command),
     ("0140 0110 0102 060401010203", 9, 11, Command),
     ("0140 0111 060301010200", 9, 9, Command),
+    // 65,550 modes, the fewest past the limit that sizes up to 64 give
+    ("010A 010F 0113 0117 060401020304", 9, 13, Command),
     ("0400 060000000000 0801", 6, 9, Command),
     ("0400 060000000000 09", 2, 9, Command),
     ("0A00", 6, 1, Command),
@@ -172,7 +174,7 @@ const COMMANDS: [(&str, u8, usize, Stage); 73] = [
 
 #[test]
 fn faults_of_commands(rt: HostRuntime) -> Result<(), Fail> {
-    for (file, number, place, stage) in COMMANDS {
+    for &(file, number, place, stage) in COMMANDS {
         let bytes = joined(rt.alloc(), &[file])?;
         check_fault(
             &rt,
@@ -192,7 +194,7 @@ const SORTED: &str = "0103 0201010001010200 020000000001 0202010001000001010202 
     0401 0400 060201000000";
 
 // What follows `SORTED`, and the fault's byte counted from there.
-const TERMS: [(&str, u8, usize, Stage); 51] = [
+const TERMS: &[(&str, u8, usize, Stage)] = &[
     ("07", 2, 1, Term),
     ("070F", 3, 1, Term),
     ("0730", 3, 1, Term),
@@ -248,7 +250,7 @@ const TERMS: [(&str, u8, usize, Stage); 51] = [
 
 #[test]
 fn faults_in_terms(rt: HostRuntime) -> Result<(), Fail> {
-    for (more, number, place, stage) in TERMS {
+    for &(more, number, place, stage) in TERMS {
         let file = joined(rt.alloc(), &[SORTED, more])?;
         check_fault(
             &rt,
@@ -262,7 +264,7 @@ fn faults_in_terms(rt: HostRuntime) -> Result<(), Fail> {
 }
 
 // Files that read.
-const READ: [&str; 21] = [
+const READ: &[&str] = &[
     "0F",
     "0101 0F",
     "0140 0F",
@@ -288,7 +290,7 @@ const READ: [&str; 21] = [
 
 #[test]
 fn files_that_read(rt: HostRuntime) -> Result<(), Fail> {
-    for file in READ {
+    for &file in READ {
         let bytes = joined(rt.alloc(), &[file])?;
         check_reads(&rt, file, rt.alloc(), bytes.as_slice())?;
     }
@@ -297,7 +299,7 @@ fn files_that_read(rt: HostRuntime) -> Result<(), Fail> {
 }
 
 // Terms at the deepest level and one below it: after `SORTED`, a head, `24` or `32` some times, and a tail.
-const DEEP: [(&str, &str, usize, &str, u8, usize); 7] = [
+const DEEP: &[(&str, &str, usize, &str, u8, usize)] = &[
     ("07", "24", 16, "2201", 7, 17),
     ("07", "24", 16, "2000", 7, 17),
     ("07", "24", 16, "", 2, 17),
@@ -309,7 +311,7 @@ const DEEP: [(&str, &str, usize, &str, u8, usize); 7] = [
 
 #[test]
 fn sixteen_levels_are_the_deepest(rt: HostRuntime) -> Result<(), Fail> {
-    for (head, unit, times, tail, number, place) in DEEP {
+    for &(head, unit, times, tail, number, place) in DEEP {
         let mut file = joined(rt.alloc(), &[SORTED])?;
         let more = repeated(rt.alloc(), head, unit, times, tail)?;
         file.extend_from_slice(more.as_slice())?;
@@ -342,7 +344,7 @@ fn sixteen_levels_are_the_deepest(rt: HostRuntime) -> Result<(), Fail> {
 }
 
 // A command that may stand so many times behind a head, and no more.
-const LIMITS: [(&str, &str, usize); 10] = [
+const LIMITS: &[(&str, &str, usize)] = &[
     ("", "0101", 7),
     ("", "020000000001", 32),
     ("", "03000000000000", 8),
@@ -361,7 +363,7 @@ const LIMITS: [(&str, &str, usize); 10] = [
 
 #[test]
 fn one_more_passes_a_limit(rt: HostRuntime) -> Result<(), Fail> {
-    for (head, unit, most) in LIMITS {
+    for &(head, unit, most) in LIMITS {
         let file = repeated(rt.alloc(), head, unit, most, "0F")?;
         check_reads(&rt, unit, rt.alloc(), file.as_slice())?;
         let place = file.len().saturating_sub(1);

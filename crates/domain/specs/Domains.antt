@@ -1,5 +1,5 @@
 -- The meanings of the domains: whole numbers, residues and truth values, and a domain turned. Assumes nothing.
-use Rattle.std.specs.Prelude.{◌≡◌, ℕ, ◌+◌, ◌%◌, ◌<◌, Bool, true, false, cond, ◌&&◌, ◌||◌, List, length, ℤ, pos, negsuc, ◌+ℤ◌, neg_ℤ, ◌≤ℤ◌, ◌==◌, int_le, nat_lt, slice_index_or, unsigned_abs}
+use Rattle.std.specs.Prelude.{◌≡◌, ℕ, ◌+◌, ◌%◌, ◌<◌, Bool, true, false, cond, ◌&&◌, ◌||◌, ℤ, pos, negsuc, ◌+ℤ◌, neg_ℤ, ◌≤ℤ◌, ◌==◌, int_le, nat_lt, unsigned_abs}
 use Rattle.domain.specs.Meaning.{Meaning, largest_weight}
 
 -- the codes of whole numbers: both signs, up to the largest weight
@@ -9,10 +9,6 @@ whole_code c = int_le (neg_ℤ (pos largest_weight)) c && int_le c (pos largest_
 -- a code of a whole number stands for itself
 abbrev pub whole_weight : ℤ → ℤ
 whole_weight c = cond (whole_code c) c (pos 0)
-
--- all are codes of whole numbers
-abbrev pub Codes : List ℤ → Type 0
-Codes codes = (i : ℕ) → i < length codes → whole_code (slice_index_or codes i (pos 0)) ≡ true
 
 -- whole numbers under addition, with any relation
 abbrev pub whole : (ℤ → ℤ → Type 0) → Meaning ℤ

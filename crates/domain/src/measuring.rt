@@ -62,6 +62,7 @@ impl Measuring for Siphon {
         true
     }
 
+    #[tactic(auto, using(crate::proofs::Measures::largest_truth))]
     fn largest(&self, v: &bool, w: &bool) -> Option<u64> {
         largest_truth(*v, *w)
     }

@@ -1,5 +1,5 @@
 ghost use Rattle.std.specs.Prelude.{◌≡◌, ◌%◌, ◌≤◌, MatchOption};
-ghost use Rattle.domain.specs.Domains.{modulo};
+ghost use Rattle.domain.specs.Domains.{modulo, residue_weight};
 ghost use Rattle.domain.specs.Residues.{residue_laws};
 
 use crate::WeightDomain;
@@ -31,6 +31,14 @@ impl Modulo {
     }
 }
 
+// The residue of a code, 0 for one that is none. The modulus comes as a number: behind a reference a loop would read it
+// anew for each code.
+fn residue(k: u32, code: i32) -> u32
+    ensures { result ≡ residue_weight k code }
+{
+    u32::try_from(code).ok().filter(|n| *n < k).unwrap_or(0)
+}
+
 impl WeightDomain for Modulo {
     type Value = u32;
 
@@ -43,10 +51,7 @@ impl WeightDomain for Modulo {
     }
 
     fn weight(&self, code: i32) -> u32 {
-        u32::try_from(code)
-            .ok()
-            .filter(|n| *n < self.k)
-            .unwrap_or(0)
+        residue(self.k, code)
     }
 
     fn zero(&self) -> u32 {
@@ -54,17 +59,20 @@ impl WeightDomain for Modulo {
     }
 
     // The sum fits 64 bits before it is reduced.
+    #[tactic(auto, using(crate::specs::Residues::added))]
     fn add_copies(&self, v: &u32, n: u32, w: &u32) -> u32 {
         self.reduce(u64::from(*v) + u64::from(n) * u64::from(*w))
     }
 
-    // The row is reduced once, since it fits 64 bits too.
+    // The row is reduced once: at most 255 places with counts up to 255 of residues below 65,535 fit 32 bits, in which
+    // it is added up faster than in 64.
     fn add_row(&self, v: &u32, counts: &[u8], codes: &[i32]) -> u32 {
-        let mut row: u64 = 0;
+        let k = self.k;
+        let mut row: u32 = 0;
         for (count, code) in counted(counts).iter().zip(codes) {
-            row += u64::from(*count) * u64::from(self.weight(*code));
+            row += u32::from(*count) * residue(k, *code);
         }
-        self.reduce(u64::from(*v) + row)
+        self.reduce(u64::from(*v) + u64::from(row))
     }
 
     fn relates(&self, v: &u32, w: &u32) -> bool {

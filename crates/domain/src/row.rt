@@ -4,8 +4,9 @@ ghost use Rattle.std.specs.Prelude.{◌≡◌, take};
 const LONGEST_ROW: usize = 255;
 
 // The counts that a row can have: cut here, since a `take` on the pairs of a row makes its sum slower.
+#[tactic(auto, using(std::proofs::lemmas::List::take_min))]
 pub(crate) fn counted(counts: &[u8]) -> &[u8]
     ensures { result.now ≡ take 255 counts.now }
 {
-    &counts[..counts.len().min(LONGEST_ROW)]
+    &counts[..LONGEST_ROW.min(counts.len())]
 }

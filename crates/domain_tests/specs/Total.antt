@@ -1,12 +1,29 @@
 -- The sum of one weight for each code. Assumes nothing.
-use Rattle.std.specs.Prelude.{ℕ, zero, suc, List, length, ℤ, pos, slice_index_or}
-use Rattle.domain.specs.Meaning.{Meaning}
+use Rattle.std.specs.Prelude.{ℕ, zero, suc, ◌+◌, cond, List, length, ℤ, pos, nat_le, slice_index_or}
+use Rattle.domain.specs.Meaning.{Meaning, largest_sum}
 
--- the sum over the first k codes
-abbrev pub total_to : {V : Type 0} → Meaning V → List ℤ → ℕ → V
-total_to d codes zero = d.nil
-total_to d codes (suc i) = d.plus (total_to d codes i) (d.weight (slice_index_or codes i (pos 0)))
+-- v and w added where their sizes stay within the largest sum, and zero elsewhere
+abbrev pub within : {V : Type 0} → Meaning V → V → V → V
+within d v w = cond (nat_le (d.size v + d.size w) largest_sum) (d.plus v w) d.nil
 
--- the sum over all codes
-abbrev pub total_of : {V : Type 0} → Meaning V → List ℤ → V
-total_of d codes = total_to d codes (length codes)
+module _ {V : Type 0} (d : Meaning V) (codes : List ℤ) where
+  -- the weight of the code at i
+  abbrev pub weight_at : ℕ → V
+  weight_at i = d.weight (slice_index_or codes i (pos 0))
+
+  -- the sum over the first k codes
+  abbrev pub total_to : ℕ → V
+  total_to zero = d.nil
+  total_to (suc i) = d.plus (total_to i) (weight_at i)
+
+  -- the sum over all codes
+  abbrev pub total_of : V
+  total_of = total_to (length codes)
+
+  -- what adding one code after the other comes to, however many there are
+  abbrev pub running_to : ℕ → V
+  running_to zero = d.nil
+  running_to (suc i) = within d (running_to i) (weight_at i)
+
+  abbrev pub running_of : V
+  running_of = running_to (length codes)

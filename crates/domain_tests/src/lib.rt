@@ -1,12 +1,13 @@
 // A domain of a caller's own, and examples of every domain.
 #![tactic(auto)]
 
-ghost use Rattle.std.specs.Prelude.{◌≡◌, ◌≤◌, length};
+ghost use Rattle.std.specs.Prelude.{◌≡◌, ◌*◌, ◌≤◌, length};
+ghost use Rattle.domain.specs.Meaning.{largest_sum, largest_weight};
 ghost use Rattle.domain_tests.specs.Greatest.{greatest};
-ghost use Rattle.domain_tests.specs.Total.{total_of};
-ghost use Rattle.domain_tests.specs.Heights.{greatest_laws};
+ghost use Rattle.domain_tests.specs.Heights.{greatest_laws, greatest_plain};
+ghost use Rattle.domain_tests.specs.Total.{running_of, total_of};
 
-use domain::{WeightDomain, add_weight};
+use domain::{Measuring, WeightDomain, add_weight};
 
 // How high a token stands. It is moved, never copied, as values that own memory would be.
 #[derive(PartialEq, Eq, Debug, Drop)]
@@ -39,6 +40,7 @@ impl WeightDomain for Greatest {
         Height { metres: 0 }
     }
 
+    #[tactic(auto, using(crate::specs::Heights::added))]
     fn add_copies(&self, v: &Height, n: u32, w: &Height) -> Height {
         if n > 0 && v.metres < w.metres {
             Height { metres: w.metres }
@@ -52,9 +54,26 @@ impl WeightDomain for Greatest {
     }
 }
 
-// The sum of one weight for each code, in any domain; it is exact for as many as 10,000 codes.
+// Every height is plain: however many tokens stand no higher than the highest may, none may stand higher.
+impl Measuring for Greatest {
+    ghost plain = { λ _ _. Unit {0} };
+
+    ghost measured = { λ _. greatest_plain };
+
+    fn is_plain(&self, _v: &Height) -> bool {
+        true
+    }
+
+    fn largest(&self, v: &Height, w: &Height) -> Option<u64> {
+        if v.metres < w.metres { Some(0) } else { None }
+    }
+}
+
+// The sum of one weight for each code, in any domain; it is exact while there is room for as many of the largest
+// weights, which are ten thousand million.
 pub fn total<D: WeightDomain>(d: &D, codes: &[i32]) -> D::Value
-    ensures { length codes.now ≤ 10000 → result ≡ total_of (D.meaning d.now) codes.now }
+    ensures running { result ≡ running_of (D.meaning d.now) codes.now }
+    ensures exact { length codes.now * largest_weight ≤ largest_sum → result ≡ total_of (D.meaning d.now) codes.now }
 {
     let mut sum = d.zero();
     for code in codes {
@@ -66,7 +85,7 @@ pub fn total<D: WeightDomain>(d: &D, codes: &[i32]) -> D::Value
 #[cfg(test)]
 mod tests {
     use super::*;
-    use domain::{Equal, Kind, Measuring, Modulo, NeverRises, Siphon, Turned};
+    use domain::{Equal, Kind, Modulo, NeverRises, Siphon, Turned};
 
     #[test]
     fn greatest_never_rises(rt: HostRuntime) {
@@ -111,6 +130,10 @@ mod tests {
         assert_eq!(rt; Equal.largest(&7, &2), Some(3));
         assert_eq!(rt; Siphon.largest(&false, &false), None);
         assert!(rt; Equal.is_plain(&0));
+        let low = Greatest.weight(5);
+        let high = Greatest.weight(9);
+        assert_eq!(rt; Greatest.largest(&low, &high), Some(0));
+        assert_eq!(rt; Greatest.largest(&high, &low), None);
     }
 
     #[test]

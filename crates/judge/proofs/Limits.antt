@@ -5,7 +5,7 @@ use Rattle.domain.specs.Measure.{Largest, PlainLaws, Reaches}
 use Rattle.domain.proofs.Copies.{copies_plain}
 use Rattle.term.specs.Worth.{Marking, value_of, value_to, weight_of}
 use Rattle.term.proofs.Sums.{value_add, value_holds, value_one, value_same}
-use Rattle.net.specs.declared.net.Net.{Net}
+use Rattle.net.specs.System.{SystemNet}
 use Rattle.net.specs.Runs.{Bounded, initial}
 use Rattle.judge.specs.Calls.{Memory}
 use Rattle.judge.specs.Caps.{AllPlain, Asked, CapIs, Limits}
@@ -51,7 +51,7 @@ module _ {V : Type 0} {d : Meaning V} (l : Laws d) (codes : List ℤ) where
     value_plain m (suc k) h =
         p.plain_plus (value_to d codes m k) (copies d (m k) (weight_of d codes k)) (value_plain m k (omega arith)) (copies_plain l p (m k) (weight_of d codes k) (all k (omega arith)))
 
-    module _ (n : Net) (cell : ℕ) (here : cell < length codes) where
+    module _ (n : SystemNet) (cell : ℕ) (here : cell < length codes) where
       -- what a domain tells for plain values, it tells here
       pub tells_cap : (v w : V) (most : Option ℕ) → v ≡ value_of d codes (initial n) → w ≡ weight_of d codes cell → (plain v → plain w → Largest d plain v w most) → CapIs d plain codes n cell most
       tells_cap v w most ev ew f =
@@ -67,7 +67,7 @@ module _ {V : Type 0} {d : Meaning V} (l : Laws d) (codes : List ℤ) where
         subst (d.rel (value_of d codes (initial n))) (value_split m cell here) r,
       )
 
-      bounded : (b c : ℕ) → CapIs d plain codes n cell (Some b) → Keeps d codes n (Ok c) → Bounded n cell b
+      pub bounded : (b c : ℕ) → CapIs d plain codes n cell (Some b) → Keeps d codes n (Ok c) → Bounded n cell b
       bounded b c told keeps m reach =
           ⊎_elim (λ (h : m cell ≤ b). h) (λ (h : b < m cell). absurd (told.1 (m cell) h (reaches m (keeps (initial n) m reach.0 reach.1)))) (either (m cell) b)
         where
@@ -75,7 +75,7 @@ module _ {V : Type 0} {d : Meaning V} (l : Laws d) (codes : List ℤ) where
           either a b = grind arith
 
 -- a number that is answered is a bound
-pub limits : {V : Type 0} {d : Meaning V} {plain : V → Type 0} → Laws d → PlainLaws d plain → (n : Net) (claim cell : ℕ) (m k : Memory) (most : Option ℕ)
+pub limits : {V : Type 0} {d : Meaning V} {plain : V → Type 0} → Laws d → PlainLaws d plain → (n : SystemNet) (claim cell : ℕ) (m k : Memory) (most : Option ℕ)
     → length k.codes ≡ 1024 → Asked d plain n claim cell m k (Ok most) → Limits n cell (Ok most)
 limits l p n claim cell m k None long a = tt
 limits l p n claim cell m k (Some b) long a =

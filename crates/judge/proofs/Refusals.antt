@@ -1,32 +1,92 @@
--- On memory that fits, judging a claim that the net has fails at a code that is no weight, and for no other reason.
-use Rattle.std.proofs.Common.{◌≡◌, ℕ, ◌<◌, vec_len, Ok, Err, Result, sym, refl, ◌∙◌, subst, arith}
+-- Why judging a claim is refused. By kind, on memory that fits, a claim of the net never is.
+use Rattle.std.proofs.Common.{◌≡◌, ℕ, ◌<◌, ◌≤◌, length, pos, ◌≤ℤ◌, Err, Option, Result, sym, refl, ap, ◌∙◌, subst, ⊎_elim, arith}
 use Rattle.domain.specs.Domains.{equal, modulo, never_rises, siphon, turned}
 use Rattle.domain.specs.Meaning.{Meaning}
 use Rattle.domain.specs.declared.kind.Kind.{Kind}
 use Rattle.domain.specs.declared.kind.Kind.TheVariants as kind
 use Rattle.term.specs.declared.fault.Fault.{Fault}
 use Rattle.term.specs.declared.fault.Fault.TheVariants as fault
+use Rattle.net.specs.Of.{system}
+use Rattle.net.specs.System.{SystemNet}
 use Rattle.net.specs.declared.net.Net.{Net}
-use Rattle.lent.specs.declared.list.LentList.{LentList}
-use Rattle.net.specs.Nets.{IsKind, claim_of}
-use Rattle.judge.specs.Calls.{Called, Fits, Memory, SameLoans, lent}
-use Rattle.judge.specs.Kinds.{By, ByKind, Outcome}
-use Rattle.judge.specs.Surveys.{Added, ByItsKind, Ready, Surveyed}
+use Rattle.net.specs.declared.parts.Claim.{Claim}
+use Rattle.net.proofs.Every.{weights}
+use Rattle.std.proofs.lemmas.List.{get_or_past}
+use Rattle.std.proofs.lemmas.Bool.{cases_lt}
+use Rattle.net.specs.Nets.{IsKind, claim_of, codes_of, no_claim}
+use Rattle.judge.specs.Calls.{AllWeigh, Called, Fits, Memory, SameLoans, lent}
+use Rattle.judge.specs.Kinds.{By, ByKind, Outcome, Weighed}
+use Rattle.judge.specs.Caps.{Asked, AskedByKind, Blind}
+use Rattle.judge.specs.Surveys.{ByItsKind}
 use Rattle.judge.specs.declared.judging.Judge.{Judge}
 
 pub still_fits : (v w : Judge) → SameLoans v w → Fits (lent v) → Fits (lent w)
 still_fits v w s f = record { codes_long = s.codes.long ∙ f.codes_long; before_long = s.before.long ∙ f.before_long; after_long = s.after.long ∙ f.after_long }
 
-module _ (n : Net) (claim : ℕ) (m k : Memory) (fits : Fits m) (there : claim < vec_len n.claims) where
-  called : {V : Type 0} (d : Meaning V) (e : Fault) → Called d n claim m k (Err e) → e ≡ fault.NoWeight
-  called d fault.NoWeight c = refl
-  called d fault.Memory c = absurd (c.0 fits)
-  called d fault.NoClaim c = let z = c.1 in absurd (omega arith)
-  called d e c = absurd c
+-- under a domain of which all the claim's codes are weights, none is found to be no weight
+module _ {V : Type 0} (d : Meaning V) (n : SystemNet) (claim : ℕ) (m k : Memory) (all : AllWeigh d (codes_of n claim)) where
+  called : Called d n claim m k (Err fault.NoWeight) → ⊥
+  called c = c.3 (subst (AllWeigh d) (sym c.2) all)
 
-  by : {V : Type 0} (d : Meaning V) (e : Fault) → By d n claim m k (Err e) → e ≡ fault.NoWeight
-  by d e (Ok r, (c, q)) = cc
-  by d e (Err f, (c, q)) = let p = called d f c in cc
+  pub judged : (r : Result Outcome Fault) → By d n claim m k r → Weighed r
+  judged r b e = called (subst (λ (x : Result Outcome Fault). By d n claim m k x) e b)
+
+  pub asked : (plain : V → Type 0) (cell : ℕ) (r : Result (Option ℕ) Fault) → Asked d plain n claim cell m k r → Weighed r
+  asked plain cell r a e = called (subst (λ (x : Result (Option ℕ) Fault). Asked d plain n claim cell m k x) e a).1
+
+its_kind : (n : SystemNet) (claim : ℕ) → claim < length n.claims → IsKind n claim (claim_of n claim).kind
+its_kind n claim h = record { there = h; is = refl }
+
+-- in a net in memory the codes of a claim are weights of its kind
+module _ (n : Net) (claim : ℕ) (m k : Memory) where
+  abbrev N : SystemNet
+  N = system n
+
+  pub kind_judged : (x : Kind) → IsKind N claim x → (r : Result Outcome Fault) → ByKind x N claim m k r → Weighed r
+  kind_judged kind.Equal is r b = judged equal N claim m k (λ c h. weights n claim c kind.Equal is h) r b
+  kind_judged kind.NeverRises is r b = judged never_rises N claim m k (λ c h. weights n claim c kind.NeverRises is h) r b
+  kind_judged kind.NeverFalls is r b = judged (turned never_rises) N claim m k (λ c h. weights n claim c kind.NeverFalls is h) r b
+  kind_judged (kind.Modulo x) is r b = judged (modulo x.k) N claim m k (λ c h. weights n claim c (kind.Modulo x) is h) r b
+  kind_judged kind.Trap is r b = judged (turned siphon) N claim m k (λ c h. weights n claim c kind.Trap is h) r b
+  kind_judged kind.Siphon is r b = judged siphon N claim m k (λ c h. weights n claim c kind.Siphon is h) r b
+
+  -- where there is no claim, none is found either
+  no_claims : {V : Type 0} (d : Meaning V) → length N.claims ≤ claim → AllWeigh d (codes_of N claim)
+  no_claims d h c l = let z = ap (λ (x : Claim). length x.codes) (get_or_past N.claims claim no_claim h) in absurd (omega arith)
+
+  pub either_judged : (r : Result Outcome Fault) → ((x : Kind) → IsKind N claim x → ByKind x N claim m k r) → (length N.claims ≤ claim → By equal N claim m k r) → Weighed r
+  either_judged r kinds none = ⊎_elim
+      (λ (h : claim < length N.claims). let is = its_kind N claim h in kind_judged (claim_of N claim).kind is r (kinds (claim_of N claim).kind is))
+      (λ (h : length N.claims ≤ claim). judged equal N claim m k (no_claims equal h) r (none h))
+      (cases_lt claim (length N.claims))
+
+  -- the same of caps
+  module _ (cell : ℕ) where
+    blind : (r : Result (Option ℕ) Fault) → Blind N claim cell m k r → Weighed r
+    blind r b e = (subst (λ (x : Result (Option ℕ) Fault). Blind N claim cell m k x) e b).0
+
+    pub kind_asked : (x : Kind) → IsKind N claim x → (r : Result (Option ℕ) Fault) → AskedByKind x N claim cell m k r → Weighed r
+    kind_asked kind.Equal is r a = asked equal N claim m k (λ c h. weights n claim c kind.Equal is h) (λ v. pos 0 ≤ℤ v) cell r a
+    kind_asked kind.NeverRises is r a = asked never_rises N claim m k (λ c h. weights n claim c kind.NeverRises is h) (λ v. pos 0 ≤ℤ v) cell r a
+    kind_asked kind.NeverFalls is r a = blind r a
+    kind_asked (kind.Modulo x) is r a = blind r a
+    kind_asked kind.Trap is r a = blind r a
+    kind_asked kind.Siphon is r a = asked siphon N claim m k (λ c h. weights n claim c kind.Siphon is h) (λ v. Unit {0}) cell r a
+
+    pub either_asked : (r : Result (Option ℕ) Fault) → ((x : Kind) → IsKind N claim x → AskedByKind x N claim cell m k r)
+        → (length N.claims ≤ claim → Asked equal (λ v. pos 0 ≤ℤ v) N claim cell m k r) → Weighed r
+    either_asked r kinds none = ⊎_elim
+        (λ (h : claim < length N.claims). let is = its_kind N claim h in kind_asked (claim_of N claim).kind is r (kinds (claim_of N claim).kind is))
+        (λ (h : length N.claims ≤ claim). asked equal N claim m k (no_claims equal h) (λ v. pos 0 ≤ℤ v) cell r (none h))
+        (cases_lt claim (length N.claims))
+
+-- on memory that fits, judging a claim of the net by kind is refused for no other reason
+module _ (n : SystemNet) (claim : ℕ) (m k : Memory) (fits : Fits m) (there : claim < length n.claims) where
+  by : {V : Type 0} (d : Meaning V) (e : Fault) → Called d n claim m k (Err e) → e ≡ fault.NoWeight
+  by d fault.NoWeight c = refl
+  by d fault.Memory c = absurd (c.0 fits)
+  by d fault.NoClaim c = let z = c.1 in absurd (omega arith)
+  by d e c = absurd c
 
   by_kind : (x : Kind) (e : Fault) → ByKind x n claim m k (Err e) → e ≡ fault.NoWeight
   by_kind kind.Equal e b = by equal e b
@@ -36,17 +96,9 @@ module _ (n : Net) (claim : ℕ) (m k : Memory) (fits : Fits m) (there : claim <
   by_kind kind.Trap e b = by (turned siphon) e b
   by_kind kind.Siphon e b = by siphon e b
 
-  pub refused : (e : Fault) → ByItsKind n claim m k (Err e) → e ≡ fault.NoWeight
-  refused e b = by_kind (claim_of n claim).kind e b
+  pub refused : (e : Fault) → ByItsKind n claim m k (Err e) → Weighed {A = Outcome} (Err e) → ⊥
+  refused e b w = w (ap (λ (x : Fault). Err x) (by_kind (claim_of n claim).kind e b))
 
 -- a claim that is judged for every kind that it has is judged by its kind
-pub by_its_kind : (n : Net) (claim : ℕ) (m k : Memory) (r : Result Outcome Fault) → claim < vec_len n.claims → ((x : Kind) → IsKind n claim x → ByKind x n claim m k r) → ByItsKind n claim m k r
-by_its_kind n claim m k r there b = b (claim_of n claim).kind (record { there = there; is = refl })
-
--- a claim that is refused after others ends the survey
-pub stopped : (n : Net) (claim : ℕ) (m x k : Memory) (s t : LentList Outcome) (e : Fault) → Ready n m s → claim < vec_len n.claims → Fits x → Added n m x s t claim
-    → ByItsKind n claim x k (Err e) → Surveyed n m k s t (Err e)
-stopped n claim m x k s t e ready there fits added b =
-    let is = refused n claim x k fits there e b in
-    subst (λ (f : Fault). Surveyed n m k s t (Err f)) (sym is)
-    (ready, (claim, record { there = there; left = x; added = added; refused = subst (λ (f : Fault). ByItsKind n claim x k (Err f)) is b }))
+pub by_its_kind : (n : SystemNet) (claim : ℕ) (m k : Memory) (r : Result Outcome Fault) → claim < length n.claims → ((x : Kind) → IsKind n claim x → ByKind x n claim m k r) → ByItsKind n claim m k r
+by_its_kind n claim m k r there b = b (claim_of n claim).kind (its_kind n claim there)

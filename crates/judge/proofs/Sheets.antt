@@ -1,10 +1,10 @@
 -- One claim more on a sheet.
-use Rattle.std.proofs.Common.{◌≡◌, ℕ, zero, suc, ◌+◌, ◌<◌, ◌⊎◌, List, [], ◌∷◌, ◌++◌, length, get_or, drop, set, Ok, vec_len, sym, refl, ap, ◌∙◌, subst, ⊎_elim, append_assoc, add-one, arith, length-append, length-set}
+use Rattle.std.proofs.Common.{◌≡◌, ℕ, zero, suc, ◌+◌, ◌<◌, ◌⊎◌, List, [], ◌∷◌, ◌++◌, length, get_or, drop, set, Ok, sym, refl, ap, ◌∙◌, subst, ⊎_elim, append_assoc, add-one, arith, length-append, length-set}
 use Rattle.std.proofs.Math.Seq.{get_or-append_seam}
 use Rattle.std.proofs.lemmas.List.{drop-drop, drop-set-lt, get_or_append_left}
 use Rattle.lent.specs.Held.{held, memory}
 use Rattle.lent.specs.declared.list.LentList.{LentList}
-use Rattle.net.specs.declared.net.Net.{Net}
+use Rattle.net.specs.System.{SystemNet}
 use Rattle.judge.specs.Calls.{Memory}
 use Rattle.judge.specs.Kinds.{Outcome}
 use Rattle.judge.specs.Surveys.{Answers, Added, ByItsKind, Judges, Noted, Ready}
@@ -43,15 +43,15 @@ noted_more s x t os o a b =
       rest = b.rest ∙ shift (memory x) ∙ ap (drop 1) a.rest ∙ sym (shift (memory s));
     }
 
-judges_none : (n : Net) (m : Memory) → Judges n m 0 m []
+judges_none : (n : SystemNet) (m : Memory) → Judges n m 0 m []
 unfolding Judges
 judges_none n m = (refl, refl)
 
-judges_more : (n : Net) (m x k : Memory) (c : ℕ) (os : List Outcome) (o : Outcome) → Judges n m c x os → ByItsKind n c x k (Ok o) → Judges n m (c + 1) k (os ++ o ∷ [])
+judges_more : (n : SystemNet) (m x k : Memory) (c : ℕ) (os : List Outcome) (o : Outcome) → Judges n m c x os → ByItsKind n c x k (Ok o) → Judges n m (c + 1) k (os ++ o ∷ [])
 unfolding Judges
 judges_more n m x k c os o a b = rw add-one (x, os, o, (a, b, refl))
 
-pub judges_long : (n : Net) (m k : Memory) (c : ℕ) (os : List Outcome) → Judges n m c k os → length os ≡ c
+pub judges_long : (n : SystemNet) (m k : Memory) (c : ℕ) (os : List Outcome) → Judges n m c k os → length os ≡ c
 unfolding Judges
 judges_long n m k zero os j = ap length j.1
 judges_long n m k (suc c) os j =
@@ -60,7 +60,7 @@ judges_long n m k (suc c) os j =
     omega arith
 
 -- each outcome is what its claim is answered from some memory
-pub judges_each : (n : Net) (m k : Memory) (c : ℕ) (os : List Outcome) → Judges n m c k os → (i : ℕ) (d : Outcome) → i < c
+pub judges_each : (n : SystemNet) (m k : Memory) (c : ℕ) (os : List Outcome) → Judges n m c k os → (i : ℕ) (d : Outcome) → i < c
     → Answers n i (get_or os i d)
 unfolding Judges
 judges_each n m k zero os j i d h = absurd (omega arith)
@@ -81,7 +81,7 @@ judges_each n m k (suc c) os j i d h =
     before_or_last : (i c : ℕ) → i < suc c → (i < c) ⊎ (i ≡ c)
     before_or_last i c h = grind arith
 
-module _ (n : Net) (m : Memory) (s : LentList Outcome) where
+module _ (n : SystemNet) (m : Memory) (s : LentList Outcome) where
   pub added_none : Added n m m s s 0
   added_none = record { outcomes = []; judged = judges_none n m; each = judges_each n m m 0 [] (judges_none n m); noted = noted_none s }
 
@@ -95,7 +95,7 @@ module _ (n : Net) (m : Memory) (s : LentList Outcome) where
   }
 
   -- where there was room for all claims, there is for one more
-  pub still_room : (k : Memory) (t : LentList Outcome) (c : ℕ) → Ready n m s → Added n m k s t c → c < vec_len n.claims → length (held t) < length (memory t)
+  pub still_room : (k : Memory) (t : LentList Outcome) (c : ℕ) → Ready n m s → Added n m k s t c → c < length n.claims → length (held t) < length (memory t)
   still_room k t c ready a h =
       let held_now = ap length a.noted.holds ∙ length-append (held s) a.outcomes in
       let whole = a.noted.long in

@@ -1,11 +1,13 @@
 -- What a caller's memory holds after a call of the judge, and why a call is refused.
-use Rattle.std.specs.Prelude.{◌≡◌, ℕ, ◌<◌, ◌≤◌, true, List, length, replicate, ℤ, pos, Ok, Err, vec_len, Result, slice_index_or}
+use Rattle.std.specs.Prelude.{◌≡◌, ℕ, ◌<◌, ◌≤◌, true, List, length, replicate, ℤ, pos, Ok, Err, Result, slice_index_or}
 use Rattle.std.specs.Borrow.{MutBor}
 use Rattle.domain.specs.Meaning.{Meaning}
 use Rattle.term.specs.declared.fault.Fault.{Fault}
 use Rattle.term.specs.declared.fault.Fault.TheVariants as fault
-use Rattle.net.specs.declared.net.Net.{Net}
-use Rattle.net.specs.Nets.{Tallied, codes_of, given, taken}
+use Rattle.net.specs.Of.{system}
+use Rattle.net.specs.System.{SystemNet}
+use Rattle.net.specs.Nets.{codes_of, given, taken}
+use Rattle.net.specs.Runs.{Counted}
 use Rattle.judge.specs.Judged.{Judged, Verdict}
 use Rattle.judge.specs.Theorem.{Exactly, Keeps, Right}
 use Rattle.judge.specs.declared.judging.Judge.{Judge}
@@ -20,16 +22,16 @@ abbrev pub none : List ℕ
 none = replicate 1024 0
 
 -- the counts after judging: t− and t+ of the mode named if broken, else all 0
-abbrev pub Left : {V : Type 0} → Net → Verdict V → List ℕ → List ℕ → Type 0
+abbrev pub Left : {V : Type 0} → SystemNet → Verdict V → List ℕ → List ℕ → Type 0
 Left n (Ok c) b a = (b ≡ none) × (a ≡ none)
-Left n (Err x) b a = Tallied none b (taken n x.firing.transition x.firing.mode) × Tallied none a (given n x.firing.transition x.firing.mode)
+Left n (Err x) b a = Counted b (taken n x.firing.transition x.firing.mode) × Counted a (given n x.firing.transition x.firing.mode)
 
 -- every code is a weight
 abbrev pub AllWeigh : {V : Type 0} → Meaning V → List ℤ → Type 0
 AllWeigh d codes = (c : ℕ) → c < length codes → d.weighs (slice_index_or codes c (pos 0)) ≡ true
 
 -- what judging the codes in memory answers: the verdict defined, right for every marking and every run
-pub record VerdictOn {V : Type 0} (d : Meaning V) (codes : List ℤ) (n : Net) (r : Verdict V) (b a : List ℕ) : Type 0 where
+pub record VerdictOn {V : Type 0} (d : Meaning V) (codes : List ℤ) (n : SystemNet) (r : Verdict V) (b a : List ℕ) : Type 0 where
   pub judged : Judged d codes n r
   pub right : Right d codes n r
   pub exactly : Exactly d codes n r
@@ -41,6 +43,10 @@ pub record Memory : Type 0 where
   pub codes : List ℤ
   pub before : List ℕ
   pub after : List ℕ
+
+-- the net of a judge
+abbrev pub net_of : Judge → SystemNet
+net_of w = system w.net.now
 
 -- what the memory lent to a judge holds
 abbrev pub lent : Judge → Memory
@@ -62,23 +68,23 @@ pub record SameLoans (v w : Judge) : Type 0 where
   pub after : SameLoan v.after w.after
 
 -- whether a call can begin: memory that fits, and a claim that the net has
-abbrev pub Begun : Net → ℕ → Memory → Result (Unit {0}) Fault → Type 0
-Begun n claim m (Ok u) = Fits m × (claim < vec_len n.claims)
+abbrev pub Begun : SystemNet → ℕ → Memory → Result (Unit {0}) Fault → Type 0
+Begun n claim m (Ok u) = Fits m × (claim < length n.claims)
 Begun n claim m (Err fault.Memory) = Fits m → ⊥
-Begun n claim m (Err fault.NoClaim) = Fits m × (vec_len n.claims ≤ claim)
+Begun n claim m (Err fault.NoClaim) = Fits m × (length n.claims ≤ claim)
 Begun n claim m (Err e) = ⊥
 
 -- what a call of judge answers, from the memory m to the memory k
-abbrev pub Called : {V : Type 0} → Meaning V → Net → ℕ → Memory → Memory → Result (Verdict V) Fault → Type 0
+abbrev pub Called : {V : Type 0} → Meaning V → SystemNet → ℕ → Memory → Memory → Result (Verdict V) Fault → Type 0
 Called d n claim m k (Ok r) =
-    Fits m × (claim < vec_len n.claims) × (k.codes ≡ codes_of n claim) × AllWeigh d k.codes × VerdictOn d k.codes n r k.before k.after
+    Fits m × (claim < length n.claims) × (k.codes ≡ codes_of n claim) × AllWeigh d k.codes × VerdictOn d k.codes n r k.before k.after
 Called d n claim m k (Err fault.Memory) = (Fits m → ⊥) × (k ≡ m)
-Called d n claim m k (Err fault.NoClaim) = Fits m × (vec_len n.claims ≤ claim) × (k ≡ m)
+Called d n claim m k (Err fault.NoClaim) = Fits m × (length n.claims ≤ claim) × (k ≡ m)
 Called d n claim m k (Err fault.NoWeight) =
-    Fits m × (claim < vec_len n.claims) × (k.codes ≡ codes_of n claim) × (AllWeigh d k.codes → ⊥) × (k.before ≡ m.before) × (k.after ≡ m.after)
+    Fits m × (claim < length n.claims) × (k.codes ≡ codes_of n claim) × (AllWeigh d k.codes → ⊥) × (k.before ≡ m.before) × (k.after ≡ m.after)
 Called d n claim m k (Err e) = ⊥
 
 -- the codes of a claim are in memory, each a weight
-abbrev pub Loaded : {V : Type 0} → Meaning V → Net → ℕ → Memory → Memory → Result (Unit {0}) Fault → Type 0
+abbrev pub Loaded : {V : Type 0} → Meaning V → SystemNet → ℕ → Memory → Memory → Result (Unit {0}) Fault → Type 0
 Loaded d n claim m k (Ok u) = (k.codes ≡ codes_of n claim) × AllWeigh d k.codes × (k.before ≡ m.before) × (k.after ≡ m.after)
 Loaded d n claim m k (Err e) = Called d n claim m k (Err e)

@@ -1,9 +1,9 @@
 -- What judging answers: the verdict, the first mode that breaks a claim, and the number of modes.
-use Rattle.std.specs.Prelude.{◌≡◌, ℕ, zero, suc, ◌+◌, ◌-◌, ◌^◌, ◌<◌, min, true, cond, List, ℤ, Ok, Err, Result, vec_len}
+use Rattle.std.specs.Prelude.{◌≡◌, ℕ, zero, suc, ◌+◌, ◌<◌, true, cond, List, length, ℤ, Ok, Err, Result}
 use Rattle.domain.specs.Meaning.{Meaning}
 use Rattle.format.specs.Format.{mode_count}
 use Rattle.term.specs.Worth.{value_of}
-use Rattle.net.specs.declared.net.Net.{Net}
+use Rattle.net.specs.System.{SystemNet}
 use Rattle.net.specs.Nets.{given, guard_holds, mode_of, taken, transition}
 use Rattle.judge.specs.declared.verdict.Breach.{Breach}
 
@@ -12,27 +12,23 @@ abbrev pub Verdict : Type 0 → Type 0
 Verdict V = Result ℕ (Breach V)
 
 -- how many modes a transition has, and the mode of a number, the first variable slowest
-abbrev pub modes_of : Net → ℕ → ℕ
+abbrev pub modes_of : SystemNet → ℕ → ℕ
 modes_of n t = mode_count (transition n t).sizes
 
-abbrev pub mode : Net → ℕ → ℕ → List ℕ
+abbrev pub mode : SystemNet → ℕ → ℕ → List ℕ
 mode n t i = mode_of (transition n t).sizes i
 
 -- how many of the first i modes have a true guard
-unfoldable pub firing : Net → ℕ → ℕ → ℕ
+unfoldable pub firing : SystemNet → ℕ → ℕ → ℕ
 firing n t zero = 0
 firing n t (suc i) = firing n t i + cond (guard_holds n t (mode n t i)) 1 0
 
 -- how many modes of the first k transitions have a true guard
-unfoldable pub number : Net → ℕ → ℕ
+unfoldable pub number : SystemNet → ℕ → ℕ
 number n zero = 0
 number n (suc k) = number n k + firing n k (modes_of n k)
 
--- a number that is held at the largest of 32 bits; nets that were read stay far below it
-abbrev pub held : ℕ → ℕ
-held k = min k (2 ^ 32 - 1)
-
-module _ {V : Type 0} (d : Meaning V) (codes : List ℤ) (n : Net) where
+module _ {V : Type 0} (d : Meaning V) (codes : List ℤ) (n : SystemNet) where
   -- the values of what a transition takes in a mode, and of what it puts
   abbrev pub before : ℕ → List ℕ → V
   before t m = value_of d codes (taken n t m)
@@ -61,10 +57,10 @@ module _ {V : Type 0} (d : Meaning V) (codes : List ℤ) (n : Net) where
 
   -- the answer for the transition k
   abbrev pub JudgedModes : ℕ → Verdict V → Type 0
-  JudgedModes k (Ok c) = (c ≡ held (firing n k (modes_of n k))) × Kept k (modes_of n k)
+  JudgedModes k (Ok c) = (c ≡ firing n k (modes_of n k)) × Kept k (modes_of n k)
   JudgedModes k (Err x) = (x.firing.transition ≡ k) × First k x.firing.mode x.before x.after
 
   -- the answer for all transitions
   abbrev pub Judged : Verdict V → Type 0
-  Judged (Ok c) = (c ≡ held (number n (vec_len n.transitions))) × KeptAll (vec_len n.transitions)
-  Judged (Err x) = (x.firing.transition < vec_len n.transitions) × KeptAll x.firing.transition × First x.firing.transition x.firing.mode x.before x.after
+  Judged (Ok c) = (c ≡ number n (length n.transitions)) × KeptAll (length n.transitions)
+  Judged (Err x) = (x.firing.transition < length n.transitions) × KeptAll x.firing.transition × First x.firing.transition x.firing.mode x.before x.after

@@ -2,12 +2,12 @@
 use Rattle.std.specs.Prelude.{◌≡◌, ℕ, Bool, true, false, List, ℤ, Ok, Err}
 use Rattle.domain.specs.Meaning.{Meaning}
 use Rattle.term.specs.Worth.{Marking, value_of}
-use Rattle.net.specs.declared.net.Net.{Net}
+use Rattle.net.specs.System.{SystemNet}
 use Rattle.net.specs.Nets.{taken}
 use Rattle.net.specs.Runs.{Fires, Run}
 use Rattle.judge.specs.Judged.{Verdict}
 
-module _ {V : Type 0} (d : Meaning V) (codes : List ℤ) (n : Net) where
+module _ {V : Type 0} (d : Meaning V) (codes : List ℤ) (n : SystemNet) where
   -- transition t, fired in the mode m from the marking a, gives values that are not related
   abbrev pub BreaksAt : ℕ → List ℕ → Marking → Type 0
   BreaksAt t m a = (b : Marking) × Fires n t m a b × (d.rel (value_of d codes a) (value_of d codes b) → ⊥)

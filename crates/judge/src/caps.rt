@@ -2,7 +2,7 @@ ghost use Rattle.std.specs.Prelude.{◌≡◌, ◌<◌, length};
 ghost use Rattle.domain.specs.Meaning.{Tells};
 ghost use Rattle.term.specs.Worth.{value_of};
 ghost use Rattle.net.specs.Runs.{initial};
-ghost use Rattle.judge.specs.Calls.{SameLoans, lent};
+ghost use Rattle.judge.specs.Calls.{SameLoans, lent, net_of};
 ghost use Rattle.judge.specs.Caps.{AllPlain, Asked, BegunAt, CapIs, Limits};
 
 use crate::judging::Judge;
@@ -20,7 +20,7 @@ impl<'n, 'm> Judge<'n, 'm> {
     // The value of the initial marking. Its tokens are few enough that it stays below the largest sum.
     fn initial_value<D: WeightDomain>(&self, d: &D) -> D::Value
         requires { length self.now.codes.now ≡ 1024 }
-        ensures { result ≡ value_of (D.meaning d.now) self.now.codes.now (initial self.now.net.now) }
+        ensures { result ≡ value_of (D.meaning d.now) self.now.codes.now (initial (net_of self.now)) }
     {
         let mut sum = d.zero();
         for (code, count) in self.codes().iter().zip(self.net.initial()) {
@@ -34,7 +34,7 @@ impl<'n, 'm> Judge<'n, 'm> {
         requires long { length self.now.codes.now ≡ 1024 }
         requires cell { cell < 1024 }
         requires plain { AllPlain (M.WeightDomain.meaning m.now) (M.plain m.now) self.now.codes.now }
-        ensures { CapIs (M.WeightDomain.meaning m.now) (M.plain m.now) self.now.codes.now self.now.net.now cell result }
+        ensures { CapIs (M.WeightDomain.meaning m.now) (M.plain m.now) self.now.codes.now (net_of self.now) cell result }
     {
         let v = self.initial_value(m);
         let w = m.weight(self.codes()[cell]);
@@ -43,7 +43,7 @@ impl<'n, 'm> Judge<'n, 'm> {
 
     // Whether a call for a cap can begin.
     pub(crate) fn begin_cap(&self, claim: usize, cell: usize) -> Result<(), Fault>
-        ensures { BegunAt self.now.net.now claim cell (lent self.now) result }
+        ensures { BegunAt (net_of self.now) claim cell (lent self.now) result }
     {
         self.begin(claim)?;
         if !self.net.has_cell(cell) {
@@ -60,8 +60,8 @@ impl<'n, 'm> Judge<'n, 'm> {
         cell: usize,
         m: &M,
     ) -> Result<Option<u64>, Fault>
-        ensures asked { Asked (M.WeightDomain.meaning m.now) (M.plain m.now) self.old.net.now claim cell (lent self.old) (lent self.new) result }
-        ensures limits { Limits self.old.net.now cell result }
+        ensures asked { Asked (M.WeightDomain.meaning m.now) (M.plain m.now) (net_of self.old) claim cell (lent self.old) (lent self.new) result }
+        ensures limits { Limits (net_of self.old) cell result }
         ensures same { SameLoans self.old self.new }
     {
         self.begin_cap(claim, cell)?;

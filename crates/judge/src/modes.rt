@@ -1,6 +1,6 @@
-ghost use Rattle.std.specs.Prelude.{◌≡◌, ◌<◌, vec_len};
+ghost use Rattle.std.specs.Prelude.{◌≡◌, ◌<◌, length};
 ghost use Rattle.domain.specs.Meaning.{Tells};
-ghost use Rattle.judge.specs.Calls.{AllWeigh, Begun, Called, Fits, Left, Loaded, SameLoans, VerdictOn, lent};
+ghost use Rattle.judge.specs.Calls.{AllWeigh, Begun, Called, Fits, Left, Loaded, SameLoans, VerdictOn, lent, net_of};
 ghost use Rattle.judge.specs.Judged.{Judged, JudgedModes};
 
 use crate::judging::Judge;
@@ -13,7 +13,7 @@ use term::Fault;
 impl<'n, 'm> Judge<'n, 'm> {
     // Judges the modes of one transition, the first variable slowest.
     fn judge_modes<D: WeightDomain>(&self, t: usize, d: &D) -> Verdict<D::Value>
-        ensures { JudgedModes (D.meaning d.now) self.now.codes.now self.now.net.now t result }
+        ensures { JudgedModes (D.meaning d.now) self.now.codes.now (net_of self.now) t result }
     {
         let net = self.net;
         let weights = Weights {
@@ -35,7 +35,7 @@ impl<'n, 'm> Judge<'n, 'm> {
                         after,
                     });
                 }
-                seen = seen.saturating_add(1);
+                seen += 1;
             }
         }
         Ok(seen)
@@ -43,11 +43,11 @@ impl<'n, 'm> Judge<'n, 'm> {
 
     // Judges all transitions in the order of the file.
     fn judge_all<D: WeightDomain>(&self, d: &D) -> Verdict<D::Value>
-        ensures { Judged (D.meaning d.now) self.now.codes.now self.now.net.now result }
+        ensures { Judged (D.meaning d.now) self.now.codes.now (net_of self.now) result }
     {
         let mut seen: u32 = 0;
         for t in 0..self.net.transitions() {
-            seen = seen.saturating_add(self.judge_modes(t, d)?);
+            seen += self.judge_modes(t, d)?;
         }
         Ok(seen)
     }
@@ -62,7 +62,7 @@ impl<'n, 'm> Judge<'n, 'm> {
     // Leaves t− and t+ of the mode named in the counts, and 0 where none is.
     fn leave<V: Drop>(&mut self, verdict: &Verdict<V>)
         requires { Fits (lent self.old) }
-        ensures left { Left self.old.net.now verdict.now self.new.before.now self.new.after.now }
+        ensures left { Left (net_of self.old) verdict.now self.new.before.now self.new.after.now }
         ensures codes { self.new.codes.now ≡ self.old.codes.now }
         ensures same { SameLoans self.old self.new }
     {
@@ -77,7 +77,7 @@ impl<'n, 'm> Judge<'n, 'm> {
     // Judges the codes in memory.
     pub(crate) fn judge_codes<D: WeightDomain>(&mut self, d: &D) -> Verdict<D::Value>
         requires { Fits (lent self.old) }
-        ensures verdict { VerdictOn (D.meaning d.now) self.old.codes.now self.old.net.now result self.new.before.now self.new.after.now }
+        ensures verdict { VerdictOn (D.meaning d.now) self.old.codes.now (net_of self.old) result self.new.before.now self.new.after.now }
         ensures codes { self.new.codes.now ≡ self.old.codes.now }
         ensures same { SameLoans self.old self.new }
     {
@@ -88,7 +88,7 @@ impl<'n, 'm> Judge<'n, 'm> {
 
     // Whether a call can begin.
     pub(crate) fn begin(&self, claim: usize) -> Result<(), Fault>
-        ensures { Begun self.now.net.now claim (lent self.now) result }
+        ensures { Begun (net_of self.now) claim (lent self.now) result }
     {
         if !self.is_measured() {
             return Err(Fault::Memory);
@@ -102,8 +102,8 @@ impl<'n, 'm> Judge<'n, 'm> {
     // Writes the codes of a claim, and refuses those that are no weights.
     pub(crate) fn load_codes<D: WeightDomain>(&mut self, claim: usize, d: &D) -> Result<(), Fault>
         requires fits { Fits (lent self.old) }
-        requires there { claim < vec_len self.old.net.now.claims }
-        ensures loaded { Loaded (D.meaning d.now) self.old.net.now claim (lent self.old) (lent self.new) result }
+        requires there { claim < length (net_of self.old).claims }
+        ensures loaded { Loaded (D.meaning d.now) (net_of self.old) claim (lent self.old) (lent self.new) result }
         ensures same { SameLoans self.old self.new }
     {
         self.net.write_codes(claim, self.codes);
@@ -119,7 +119,7 @@ impl<'n, 'm> Judge<'n, 'm> {
         claim: usize,
         d: &D,
     ) -> Result<Verdict<D::Value>, Fault>
-        ensures called { Called (D.meaning d.now) self.old.net.now claim (lent self.old) (lent self.new) result }
+        ensures called { Called (D.meaning d.now) (net_of self.old) claim (lent self.old) (lent self.new) result }
         ensures same { SameLoans self.old self.new }
     {
         self.begin(claim)?;

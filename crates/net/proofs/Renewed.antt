@@ -1,5 +1,5 @@
 -- What stands last, changed.
-use Rattle.std.proofs.Common.{◌≡◌, ℕ, ◌-◌, ◌<◌, ◌≤◌, List, [], ◌∷◌, length, get_or, map, set, sym, refl, ap, ◌∙◌, arith}
+use Rattle.std.proofs.Common.{◌≡◌, ℕ, ◌-◌, ◌<◌, List, [], ◌∷◌, length, get_or, map, set, sym, refl, ap, ◌∙◌, arith}
 use Rattle.std.proofs.Math.ListN.{length-map}
 use Rattle.std.proofs.lemmas.List.{get_or_default, get_or-map, get_or-set_same, length-set, map-set, set-get_or, set-set}
 use Rattle.net.specs.Reading.{renew}
@@ -13,10 +13,6 @@ pub told_anew : {X Y : Type 0} (told : X → Y) (xs : List X) (n : ℕ) (none : 
     → map told (set xs (n - 1) u) ≡ renew (map told xs) none f
 told_anew told xs n none f t u e some is h =
     map-set told xs (n - 1) u ∙ anew (map told xs) n none f (told t) (told u) (e ∙ sym (length-map xs told)) some (ap told is ∙ sym (get_or-map told xs (n - 1) t (told t) (omega arith))) h
-
-pub none_anew : {X : Type 0} (xs : List X) (none : X) (f : X → X) → length xs ≤ 0 → xs ≡ renew xs none f
-none_anew [] none f h = refl
-none_anew (x ∷ xs) none f h = let z : ⊥ = omega arith in absurd z
 
 pub same_anew : {X : Type 0} (xs : List X) (none : X) → xs ≡ renew xs none (λ x. x)
 same_anew xs none = sym (set-get_or xs (length xs - 1) none)

@@ -1,13 +1,29 @@
--- One arc more.
-use Rattle.std.proofs.Common.{◌≡◌, ℕ, ◌+◌, ◌<◌, List, length, get_or, take, sym, ap, ◌∙◌}
-use Rattle.std.proofs.lemmas.List.Sums.{sum_by_more}
-use Rattle.net.specs.declared.net.Net.{Net}
-use Rattle.net.specs.declared.parts.Arc.{Arc}
-use Rattle.net.specs.Nets.{load, part, part_load, side}
+-- What arcs add, and at most how many tokens that is: one arc more.
+use Rattle.std.proofs.Common.{◌≡◌, ℕ, ◌+◌, ◌<◌, List, length, get_or, map, sum_by, take, sym, ap, ◌∙◌}
+use Rattle.std.proofs.lemmas.List.{map_more}
+use Rattle.std.proofs.lemmas.List.Sums.{sum_by_push}
+use Rattle.net.specs.declared.parts.Arc as parts
+use Rattle.term.specs.Worth.{most}
+use Rattle.net.specs.Nets.{bag_of, part, side}
+use Rattle.net.specs.Spans.{Arc, arc_told}
+use Rattle.net.specs.System.{SystemNet}
 
-module _ (n : Net) (xs : List Arc) (i : ℕ) (a : Arc) (h : i < length xs) (is : a ≡ get_or xs i a) where
-  pub side_more : (m : List ℕ) (c : ℕ) → side n m (take i xs) c + part n m c a ≡ side n m (take (i + 1) xs) c
-  side_more m c = sym (sum_by_more (part n m c) xs i a h ∙ ap (λ z. side n m (take i xs) c + part n m c z) (sym is))
+-- at most how many tokens an arc adds, and arcs together
+abbrev pub part_load : SystemNet → Arc → ℕ
+part_load n a = most (bag_of n a)
 
-  pub load_more : load n (take i xs) + part_load n a ≡ load n (take (i + 1) xs)
-  load_more = sym (sum_by_more (part_load n) xs i a h ∙ ap (λ z. load n (take i xs) + part_load n z) (sym is))
+abbrev pub load : SystemNet → List Arc → ℕ
+load n xs = sum_by (part_load n) xs
+
+module _ (xs : List parts.Arc) (i : ℕ) (a : parts.Arc) (h : i < length xs) (is : a ≡ get_or xs i a) where
+  -- the sum over what the arcs tell
+  sum_more : (f : Arc → ℕ) → sum_by f (map arc_told (take i xs)) + f (arc_told a) ≡ sum_by f (map arc_told (take (i + 1) xs))
+  sum_more f =
+      let before = map arc_told (take i xs) in
+      sym (ap (sum_by f) (map_more arc_told xs i a h) ∙ sum_by_push f before (arc_told (get_or xs i a)) ∙ ap (λ z. sum_by f before + f (arc_told z)) (sym is))
+
+  pub side_more : (n : SystemNet) (m : List ℕ) (c : ℕ) → side n m (map arc_told (take i xs)) c + part n m c (arc_told a) ≡ side n m (map arc_told (take (i + 1) xs)) c
+  side_more n m c = sum_more (part n m c)
+
+  pub load_more : (n : SystemNet) → load n (map arc_told (take i xs)) + part_load n (arc_told a) ≡ load n (map arc_told (take (i + 1) xs))
+  load_more n = sum_more (part_load n)

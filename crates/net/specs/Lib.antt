@@ -1,5 +1,8 @@
 pub mod Spans
+pub mod System
 pub mod Nets
 pub mod Runs
-pub mod System
 pub mod Reading
+pub mod Of
+pub mod Written
+pub mod Sound

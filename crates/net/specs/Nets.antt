@@ -1,78 +1,49 @@
 -- Nets and what their transitions take and put.
-use Rattle.std.specs.Prelude.{◌≡◌, ℕ, ◌+◌, ◌-◌, ◌/◌, ◌%◌, ◌^◌, ◌<◌, min, Bool, true, cond, List, [], ◌∷◌, length, map, ℤ, Option, None, option_map, vec_items, vec_len, ◌==◌, slice_get, slice_index, slice_index_or, sum_by}
+use Rattle.std.specs.Prelude.{◌≡◌, ℕ, ◌+◌, ◌-◌, ◌/◌, ◌%◌, ◌^◌, ◌<◌, min, Bool, true, cond, List, [], ◌∷◌, length, ℤ, ◌==◌, slice_index, slice_index_or, sum_by}
 use Rattle.std.specs.Option.{option_map_or}
 use Rattle.domain.specs.declared.kind.Kind.{Kind}
 use Rattle.domain.specs.declared.kind.Kind.TheVariants.{Equal}
 use Rattle.format.specs.declared.command.Direction.{Direction}
 use Rattle.format.specs.Format.{place_size}
-use Rattle.term.specs.Meaning.{Bag, Sig, bag_said, count, operation_said, value}
+use Rattle.term.specs.Meaning.{Bag, count, value}
 use Rattle.term.specs.Prefix.{bag_at, term_at}
-use Rattle.term.specs.Worth.{Marking, most, on_place}
-use Rattle.net.specs.declared.net.Net.{Net}
-use Rattle.net.specs.declared.parts.Arc.{Arc}
+use Rattle.term.specs.Worth.{Marking, on_place}
 use Rattle.net.specs.declared.parts.Claim.{Claim}
-use Rattle.net.specs.declared.parts.Transition as parts
-use Rattle.net.specs.Spans.{towards}
+use Rattle.net.specs.Spans.{Arc, towards}
+use Rattle.net.specs.System.{SystemNet, Transition, no_transition}
 
 -- the deepest that a term or a bag may be
 abbrev pub depth : ℕ
 depth = 16
 
--- the sorts, operations and bag operations of a net
-abbrev pub sig : Net → Sig
-sig n = record { sizes = vec_items n.sizes; operations = map operation_said (vec_items n.operations); bags = map bag_said (vec_items n.bags) }
-
--- a transition: how many elements each variable has, the bytes of its guard, and the arcs by which it takes
--- and puts
-pub record Transition : Type 0 where
-  pub sizes : List ℕ
-  pub guard : Option (List ℕ)
-  pub takes : List Arc
-  pub puts : List Arc
-
-abbrev pub no_transition : Transition
-no_transition = record { sizes = []; guard = None; takes = []; puts = [] }
-
--- what a transition in memory says
-abbrev pub said : parts.Transition → Transition
-said t = record { sizes = t.sizes; guard = option_map vec_items t.guard; takes = vec_items t.takes.arcs; puts = vec_items t.puts.arcs }
-
-abbrev pub transition : Net → ℕ → Transition
-transition n t = option_map_or said (slice_get (vec_items n.transitions) t) no_transition
+abbrev pub transition : SystemNet → ℕ → Transition
+transition n t = slice_index_or n.transitions t no_transition
 
 -- the guard of a transition is true in a mode; a missing guard always is
-abbrev pub guard_holds : Net → ℕ → List ℕ → Bool
-guard_holds n t m = option_map_or (λ g. value (sig n) m (term_at (sig n) depth g).0 == 1) (transition n t).guard true
+abbrev pub guard_holds : SystemNet → ℕ → List ℕ → Bool
+guard_holds n t m = option_map_or (λ g. value n.sig m (term_at n.sig depth g).0 == 1) (transition n t).guard true
 
 -- the bag of an arc
-abbrev pub bag_of : Net → Arc → Bag
-bag_of n a = (bag_at (sig n) depth (vec_items a.bag)).0
+abbrev pub bag_of : SystemNet → Arc → Bag
+bag_of n a = (bag_at n.sig depth a.bag).0
 
 -- the arcs of a transition that go one way
-abbrev pub arcs_of : Net → ℕ → Direction → List Arc
+abbrev pub arcs_of : SystemNet → ℕ → Direction → List Arc
 arcs_of n t d = towards d (transition n t).takes (transition n t).puts
 
 -- what an arc adds in a mode
-abbrev pub part : Net → List ℕ → ℕ → Arc → ℕ
-part n m c a = on_place a.place (count (sig n) m (bag_of n a)) c
+abbrev pub part : SystemNet → List ℕ → ℕ → Arc → ℕ
+part n m c a = on_place a.place (count n.sig m (bag_of n a)) c
 
 -- the sum of the bags of arcs, in a mode
-abbrev pub side : Net → List ℕ → List Arc → Marking
+abbrev pub side : SystemNet → List ℕ → List Arc → Marking
 side n m xs c = sum_by (part n m c) xs
 
--- at most how many tokens an arc adds
-abbrev pub part_load : Net → Arc → ℕ
-part_load n a = most (bag_of n a)
-
--- at most how many tokens that is
-abbrev pub load : Net → List Arc → ℕ
-load n xs = sum_by (part_load n) xs
-
 -- what a transition takes in a mode, and what it puts
-abbrev pub taken : Net → ℕ → List ℕ → Marking
+abbrev pub taken : SystemNet → ℕ → List ℕ → Marking
 taken n t m = side n m (transition n t).takes
 
-abbrev pub given : Net → ℕ → List ℕ → Marking
+abbrev pub given : SystemNet → ℕ → List ℕ → Marking
 given n t m = side n m (transition n t).puts
 
 -- the remainder, 0 where there is nothing to divide by
@@ -96,22 +67,30 @@ pub record Mode (ns m : List ℕ) : Type 0 where
 abbrev pub Tallied : List ℕ → List ℕ → Marking → Type 0
 Tallied before after m = (c : ℕ) → c < length before → slice_index after c ≡ min (slice_index before c + m c) (2 ^ 32 - 1)
 
+-- at most how many tokens the arcs of a transition that go one way have in a cell: 255 for each 4 of 65,536 bytes
+abbrev pub largest_side : ℕ
+largest_side = 4177920
+
+-- a marking is added to counts, exactly, where there is room for the largest side
+abbrev pub ExactlyTallied : List ℕ → List ℕ → Marking → Type 0
+ExactlyTallied before after m = (c : ℕ) → c < length before → slice_index before c + largest_side < 2 ^ 32 → slice_index after c ≡ slice_index before c + m c
+
 -- the cell stands for a place of the net and an element of that place's sort
-pub record HasCell (n : Net) (cell : ℕ) : Type 0 where
+pub record HasCell (n : SystemNet) (cell : ℕ) : Type 0 where
   pub within : cell < 1024
-  pub element : cell % 64 < place_size (vec_items n.sizes) (vec_items n.places) (cell / 64)
+  pub element : cell % 64 < place_size n.sig.sizes n.places (cell / 64)
 
 abbrev pub no_claim : Claim
 no_claim = record { kind = Equal; codes = [] }
 
-abbrev pub claim_of : Net → ℕ → Claim
-claim_of n k = slice_index_or (vec_items n.claims) k no_claim
+abbrev pub claim_of : SystemNet → ℕ → Claim
+claim_of n k = slice_index_or n.claims k no_claim
 
 -- the codes of a claim, one for each of 1,024 cells
-abbrev pub codes_of : Net → ℕ → List ℤ
+abbrev pub codes_of : SystemNet → ℕ → List ℤ
 codes_of n k = (claim_of n k).codes
 
 -- the net has a claim of this number and kind
-pub record IsKind (n : Net) (claim : ℕ) (k : Kind) : Type 0 where
-  pub there : claim < vec_len n.claims
+pub record IsKind (n : SystemNet) (claim : ℕ) (k : Kind) : Type 0 where
+  pub there : claim < length n.claims
   pub is : k ≡ (claim_of n claim).kind

@@ -1,6 +1,7 @@
 -- Which net a file tells, or which fault it has: the commands one after the other, each in the order of its bytes.
 use Rattle.std.specs.Prelude.{◌≡◌, ℕ, zero, suc, ◌+◌, ◌-◌, ◌*◌, Bool, false, cond, List, [], ◌∷◌, ◌++◌, length, replicate, ℤ, pos, Some, None, Ok, Err, Option, Result, nat_le, nat_lt, slice_index, slice_index_or, slice_set, sum_by}
 use Rattle.domain.specs.Kinds.{kind_of}
+use Rattle.domain.specs.declared.kind.Kind.{Kind}
 use Rattle.term.specs.declared.fault.Fault.TheVariants as fail
 use Rattle.term.specs.declared.fault.FileFault.{FileFault}
 use Rattle.term.specs.declared.fault.Stage.TheVariants as stage
@@ -18,14 +19,12 @@ use Rattle.net.specs.declared.parts.Claim.{Claim}
 use Rattle.net.specs.declared.reader.ReadError.{ReadError}
 use Rattle.net.specs.declared.reader.ReadError.TheVariants.{File, Memory}
 use Rattle.net.specs.Nets.{no_claim}
-use Rattle.net.specs.System.{Arc, SystemNet, Transition}
+use Rattle.net.specs.Spans.{Arc}
+use Rattle.net.specs.System.{SystemNet, Transition, no_transition}
 
 -- the net that the end alone tells: sort 0 with its two elements
 abbrev pub empty : SystemNet
 empty = record { sig = record { sizes = 2 ∷ []; operations = []; bags = [] }; places = []; initial = replicate 1024 0; transitions = []; claims = [] }
-
-abbrev pub no_transition : Transition
-no_transition = record { sorts = []; sizes = []; guard = None; takes = []; puts = [] }
 
 -- what stands last, or something in its place
 abbrev pub newest : {X : Type 0} → List X → X → X
@@ -40,9 +39,13 @@ renew xs none f = slice_set xs (length xs - 1) (f (newest xs none))
 abbrev pub setting : SystemNet → ℕ → Setting
 setting n ends = record { signature = n.sig; places = n.places; variables = (newest n.transitions no_transition).sorts; kind = (newest n.claims no_claim).kind; ends = ends }
 
--- how many arcs there are, both directions together
+-- how many arcs a transition has, both directions together
+abbrev pub arcs_in : Transition → ℕ
+arcs_in t = length t.takes + length t.puts
+
+-- how many arcs there are
 abbrev pub arc_count : SystemNet → ℕ
-arc_count n = sum_by (λ t. length t.takes + length t.puts) n.transitions
+arc_count n = sum_by arcs_in n.transitions
 
 -- one more would pass a limit: 7 sorts beside sort 0, 32 operations, 8 bag operations, 16 places, 32 transitions, 128 arcs, 16 claims
 abbrev pub full : SystemNet → Code → Bool
@@ -56,6 +59,10 @@ full n code.OutArc = nat_le 128 (arc_count n)
 full n code.Claim = nat_le 16 (length n.claims)
 full n c = false
 
+-- a transition without guard and arcs, where the sorts have these sizes
+abbrev pub bare : List ℕ → List ℕ → Transition
+bare sizes v = record { sorts = v; sizes = variable_sizes sizes (length v) v; guard = None; takes = []; puts = [] }
+
 -- a transition with its guard
 abbrev pub guarded : List ℕ → Transition → Transition
 guarded g t = record t { guard = Some g }
@@ -64,6 +71,10 @@ guarded g t = record t { guard = Some g }
 abbrev pub linked : Direction → Arc → Transition → Transition
 linked direction.In a t = record t { takes = t.takes ++ a ∷ [] }
 linked direction.Out a t = record t { puts = t.puts ++ a ∷ [] }
+
+-- a claim without weights: all its codes are 0
+abbrev pub unweighted : Kind → Claim
+unweighted k = record { kind = k; codes = replicate 1024 (pos 0) }
 
 -- the codes of the first k elements of a place made c
 abbrev pub put_row : ℕ → ℕ → ℤ → List ℤ → List ℤ
@@ -85,10 +96,10 @@ add n (operation k a b r t) = record n { sig = record n.sig { operations = n.sig
 add n (bag_operation a r t) = record n { sig = record n.sig { bags = n.sig.bags ++ (record { argument = a; result = r; table = t }) ∷ [] } }
 add n (place s) = record n { places = n.places ++ s ∷ [] }
 add n (tokens p e k) = record n { initial = slice_set n.initial (64 * p + e) k }
-add n (transition s) = record n { transitions = n.transitions ++ (record { sorts = s; sizes = variable_sizes n.sig.sizes (length s) s; guard = None; takes = []; puts = [] }) ∷ [] }
+add n (transition s) = record n { transitions = n.transitions ++ bare n.sig.sizes s ∷ [] }
 add n (guard t) = record n { transitions = renew n.transitions no_transition (guarded t) }
 add n (arc d p b) = record n { transitions = renew n.transitions no_transition (linked d (record { place = p; bag = b })) }
-add n (claim k m) = record n { claims = n.claims ++ (record { kind = kind_of k m; codes = replicate 1024 (pos 0) }) ∷ [] }
+add n (claim k m) = record n { claims = n.claims ++ unweighted (kind_of k m) ∷ [] }
 add n (place_weight p c) = weighted n (put_row p (place_size n.sig.sizes n.places p) c)
 add n (element_weight p e c) = weighted n (λ xs. slice_set xs (64 * p + e) c)
 add n end = n

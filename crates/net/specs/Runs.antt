@@ -1,16 +1,20 @@
 -- Firings and runs of a net. A marking counts without limit.
-use Rattle.std.specs.Prelude.{◌≡◌, ℕ, ◌+◌, ◌-◌, ◌<◌, ◌≤◌, true, List, [], ◌∷◌, length, vec_len, slice_index}
+use Rattle.std.specs.Prelude.{◌≡◌, ℕ, ◌+◌, ◌-◌, ◌<◌, ◌≤◌, true, List, [], ◌∷◌, length, slice_index}
 use Rattle.term.specs.Worth.{Marking}
-use Rattle.net.specs.declared.net.Net.{Net}
 use Rattle.net.specs.Nets.{Mode, given, guard_holds, taken, transition}
+use Rattle.net.specs.System.{SystemNet}
 
 -- the number of cells
 abbrev pub cells : ℕ
 cells = 1024
 
+-- counts in memory are those of a marking
+abbrev pub Counted : List ℕ → Marking → Type 0
+Counted ns a = (c : ℕ) → c < cells → slice_index ns c ≡ a c
+
 -- transition t fires in the mode m and leads from the marking a to b
-pub record Fires (n : Net) (t : ℕ) (m : List ℕ) (a b : Marking) : Type 0 where
-  pub there : t < vec_len n.transitions
+pub record Fires (n : SystemNet) (t : ℕ) (m : List ℕ) (a b : Marking) : Type 0 where
+  pub there : t < length n.transitions
   pub four : length m ≡ 4
   pub mode : Mode (transition n t).sizes m
   pub guard : guard_holds n t m ≡ true
@@ -18,18 +22,18 @@ pub record Fires (n : Net) (t : ℕ) (m : List ℕ) (a b : Marking) : Type 0 whe
   pub new : (c : ℕ) → c < cells → b c ≡ a c - taken n t m c + given n t m c
 
 -- firings, each a transition and a mode, lead one after the other from a to b
-abbrev pub Run : Net → Marking → List (ℕ × List ℕ) → Marking → Type 0
+abbrev pub Run : SystemNet → Marking → List (ℕ × List ℕ) → Marking → Type 0
 Run n a [] b = (c : ℕ) → c < cells → a c ≡ b c
 Run n a (f ∷ fs) b = (x : Marking) × (Fires n f.0 f.1 a x × Run n x fs b)
 
 -- the initial marking
-abbrev pub initial : Net → Marking
+abbrev pub initial : SystemNet → Marking
 initial n c = slice_index n.initial c
 
 -- a run of firings leads from the initial marking to this one
-abbrev pub Reachable : Net → Marking → Type 0
+abbrev pub Reachable : SystemNet → Marking → Type 0
 Reachable n m = (fs : List (ℕ × List ℕ)) × Run n (initial n) fs m
 
 -- no marking that can be reached has more than k tokens in the cell
-abbrev pub Bounded : Net → ℕ → ℕ → Type 0
+abbrev pub Bounded : SystemNet → ℕ → ℕ → Type 0
 Bounded n cell k = (m : Marking) → Reachable n m → m cell ≤ k

@@ -1,23 +1,17 @@
-ghost use Rattle.std.specs.Prelude.{◌≡◌, slice_index};
+ghost use Rattle.net.specs.Sound.{Sound};
+ghost use Rattle.net.specs.System.{told_by};
 
-use crate::parts::{Claim, Transition};
-use term::{BagOperation, Operation};
+use crate::parts::Parts;
 
 pub mod ask;
-pub mod build;
 
 // How many cells there are: 16 places of at most 64 elements.
 pub const CELLS: usize = 1024;
 
-// A net with its initial marking and its claims. Sort 0 is always there and has two elements.
+// A net with its initial marking and its claims. `Net::new` and `read` alone write its parts: so every net is sound, its
+// terms of their sorts and its numbers in their ranges.
 #[derive(Drop)]
 pub struct Net {
-    pub(crate) sizes: Vec<u8>,
-    pub(crate) operations: Vec<Operation>,
-    pub(crate) bags: Vec<BagOperation>,
-    pub(crate) places: Vec<u8>,
-    pub(crate) initial: [u16; CELLS],
-    pub(crate) transitions: Vec<Transition>,
-    pub(crate) claims: Vec<Claim>,
-    ghost first: { slice_index sizes.items 0 ≡ 2 },
+    pub(crate) parts: Parts,
+    ghost sound: { ∥ Sound (told_by parts) ∥₁ },
 }

@@ -1,25 +1,17 @@
-ghost use Rattle.std.specs.Prelude.{◌≡◌, ◌≤◌, ◌++◌, ◌∷◌, [], OnOk};
-ghost use Rattle.net.specs.Spans.{spans, towards};
+ghost use Rattle.std.specs.Prelude.{◌≡◌, slice_index};
 
 use crate::net::CELLS;
-use crate::reader::LONGEST;
 use domain::Kind;
-use format::Direction;
-use std::alloc::AllocError;
+use term::{BagOperation, Operation};
+
+pub mod ask;
+pub mod build;
 
 // An arc: its place and its bag.
 #[derive(Drop)]
 pub struct Arc {
     pub(crate) place: u8,
     pub(crate) bag: Vec<u8>,
-}
-
-// The arcs of a transition that go one way. Their bags are short enough that no sum of their weights or counts
-// passes its bounds.
-#[derive(Drop)]
-pub struct Side {
-    pub(crate) arcs: Vec<Arc>,
-    ghost short: { spans arcs.items ≤ 65536 },
 }
 
 // A transition: the sorts of its variables, how many elements each of four has (1 for an unused one), the term
@@ -29,8 +21,8 @@ pub struct Transition {
     pub(crate) sorts: Vec<u8>,
     pub(crate) sizes: [u8; 4],
     pub(crate) guard: Option<Vec<u8>>,
-    pub(crate) takes: Side,
-    pub(crate) puts: Side,
+    pub(crate) takes: Vec<Arc>,
+    pub(crate) puts: Vec<Arc>,
 }
 
 // A claim: its kind, and a code for each cell.
@@ -40,35 +32,15 @@ pub struct Claim {
     pub(crate) codes: [i32; CELLS],
 }
 
-impl Side {
-    // How many bytes the bags have.
-    fn span(&self) -> usize
-        ensures { result ≡ spans self.now.arcs.items }
-    {
-        self.arcs.iter().map(|a| a.bag.len()).sum()
-    }
-
-    // Adds an arc. Bags of more bytes than the longest file has are not taken: they count as want of memory, since no
-    // file can come to them.
-    pub(crate) fn add(&mut self, arc: Arc) -> Result<(), AllocError>
-        ensures { OnOk result (self.new.arcs.items ≡ self.old.arcs.items ++ arc ∷ []) }
-    {
-        if arc.bag.len() > LONGEST - self.span() {
-            return Err(AllocError);
-        }
-        self.arcs.push(arc)?;
-        Ok(())
-    }
-}
-
-impl Transition {
-    // The arcs that go one way.
-    pub(crate) fn arcs(&self, direction: Direction) -> &[Arc]
-        ensures { result.now ≡ towards direction self.now.takes.arcs.items self.now.puts.arcs.items }
-    {
-        match direction {
-            Direction::In => self.takes.arcs.as_slice(),
-            Direction::Out => self.puts.arcs.as_slice(),
-        }
-    }
+// What a net is made of. Sort 0 is always there and has two elements.
+#[derive(Drop)]
+pub struct Parts {
+    pub(crate) sizes: Vec<u8>,
+    pub(crate) operations: Vec<Operation>,
+    pub(crate) bags: Vec<BagOperation>,
+    pub(crate) places: Vec<u8>,
+    pub(crate) initial: [u16; CELLS],
+    pub(crate) transitions: Vec<Transition>,
+    pub(crate) claims: Vec<Claim>,
+    ghost first: { slice_index sizes.items 0 ≡ 2 },
 }

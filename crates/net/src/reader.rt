@@ -1,11 +1,13 @@
-ghost use Rattle.std.specs.Prelude.{◌≡◌, ◌<◌, length, OnOk};
+ghost use Rattle.std.specs.Prelude.{◌≡◌, ◌<◌, length, IfOk, OnOk};
 ghost use Rattle.net.specs.Reading.{Fills, Reads, Steps, empty, opening, opens, step as step_at};
-ghost use Rattle.net.specs.System.{system};
+ghost use Rattle.net.specs.Of.{system};
+ghost use Rattle.net.specs.System.{told_by};
 ghost use Rattle.net.specs.declared.reader.ReadError.TheVariants.{File, Memory};
 
 use crate::net::Net;
+use crate::parts::Parts;
 use format::{Code, Command, Order, refused};
-use std::alloc::AllocError;
+use std::alloc::{AllocError, Global};
 use term::{Fault, FileFault, Stage};
 
 // The longest file.
@@ -43,9 +45,9 @@ pub struct Reader<'f> {
 }
 
 impl<'f> Reader<'f> {
-    // The code of the next command, which opens its section and must have room in the net.
-    fn code(&mut self, net: &Net) -> Result<Code, FileFault>
-        ensures value { opens result self.new.order.section ≡ opening self.old.order.section (system net.now) self.old.rest.now self.old.ends }
+    // The code of the next command, which opens its section and must have room.
+    fn code(&mut self, parts: &Parts) -> Result<Code, FileFault>
+        ensures value { opens result self.new.order.section ≡ opening self.old.order.section (told_by parts.now) self.old.rest.now self.old.ends }
         ensures rest { self.new.rest.now ≡ self.old.rest.now }
         ensures ends { self.new.ends ≡ self.old.ends }
     {
@@ -55,30 +57,30 @@ impl<'f> Reader<'f> {
         if !self.order.enter(code) {
             return Err(refused(Fault::Order, at));
         }
-        if net.is_full(code) {
+        if parts.is_full(code) {
             return Err(refused(Fault::Limit, at));
         }
         Ok(code)
     }
 
-    // Reads the next command and carries it out on the net. False at the end.
-    fn step(&mut self, net: &mut Net) -> Result<bool, ReadError>
-        ensures value { Steps result self.new.order.section (system net.new) self.new.rest.now (step_at self.old.order.section (system net.old) self.old.rest.now self.old.ends) }
+    // Reads the next command and carries it out. False at the end.
+    fn step(&mut self, parts: &mut Parts) -> Result<bool, ReadError>
+        ensures value { Steps result self.new.order.section (told_by parts.new) self.new.rest.now (step_at self.old.order.section (told_by parts.old) self.old.rest.now self.old.ends) }
         ensures shorter { OnOk result (length self.new.rest.now < length self.old.rest.now) }
         ensures ends { self.new.ends ≡ self.old.ends }
     {
-        let code = self.code(net)?;
-        let (command, rest) = net.context(self.ends).parse(code, self.rest)?;
-        net.carry_out(command)?;
+        let code = self.code(parts)?;
+        let (command, rest) = parts.context(self.ends).parse(code, self.rest)?;
+        parts.carry_out(command)?;
         self.rest = rest;
         Ok(!matches!(command, Command::End))
     }
 }
 
-// Carries out every command of a file on the empty net.
-fn fill(net: &mut Net, file: &[u8]) -> Result<(), ReadError>
-    requires { system net.old ≡ empty }
-    ensures { Fills result file.now (system net.new) }
+// Carries out every command of a file, from the empty net on.
+fn fill(parts: &mut Parts, file: &[u8]) -> Result<(), ReadError>
+    requires { told_by parts.old ≡ empty }
+    ensures { Fills result file.now (told_by parts.new) }
 {
     if file.len() > LONGEST {
         return Err(ReadError::File(FileFault {
@@ -92,18 +94,36 @@ fn fill(net: &mut Net, file: &[u8]) -> Result<(), ReadError>
         rest: file,
         ends: file.len(),
     };
-    while reader.step(net)? {}
+    while reader.step(parts)? {}
     Ok(())
+}
+
+// Makes the parts those of the file's net, or of the empty one if there is a fault.
+fn load(parts: &mut Parts, file: &[u8]) -> Result<(), ReadError>
+    ensures { Reads result file.now (told_by parts.new) }
+{
+    parts.clear();
+    let answer = fill(parts, file);
+    if answer.is_err() {
+        parts.clear();
+    }
+    answer
+}
+
+impl Net {
+    // The empty net: sort 0 alone, which has two elements.
+    pub fn new(heap: Global) -> Result<Net, AllocError>
+        ensures { IfOk result (λ n. system n ≡ empty) }
+    {
+        Ok(Net {
+            parts: Parts::new(heap)?,
+        })
+    }
 }
 
 // Fills the caller's net from a file. A fault leaves the empty net there.
 pub fn read(net: &mut Net, file: &[u8]) -> Result<(), ReadError>
     ensures { Reads result file.now (system net.new) }
 {
-    net.clear();
-    let answer = fill(net, file);
-    if answer.is_err() {
-        net.clear();
-    }
-    answer
+    load(&mut net.parts, file)
 }

@@ -1,39 +1,17 @@
--- Tokens of the elements of a row, one after the other.
-use Rattle.std.proofs.Common.{◌≡◌, ℕ, ◌+◌, ◌-◌, ◌*◌, ◌^◌, ◌<◌, ◌≤◌, Bool, true, false, cond, eqb, ltb, List, length, get_or, take, drop, refl, sym, ap, ◌∙◌, arith}
+-- Tokens of the elements of a row.
+use Rattle.std.proofs.Common.{◌≡◌, ℕ, ◌+◌, ◌-◌, ◌*◌, ◌^◌, ◌<◌, ◌≤◌, Bool, true, false, cond, eqb, ltb, List, length, get_or, min, set, take, drop, refl, sym, ap, ◌∙◌, arith}
 use Rattle.std.proofs.lemmas.Bool.Decides.{nat_tests}
-use Rattle.std.proofs.lemmas.List.{get_or-drop, get_or-take, get_or_past, length-take}
+use Rattle.std.proofs.lemmas.List.{get_or-drop, get_or-set_other, get_or-set_same, get_or-take, get_or_past, length-take}
 use Rattle.term.specs.Meaning.{BagOperation, Sig, copies_in, no_bag, size}
 use Rattle.term.specs.Counts.{Added}
 use Rattle.term.specs.Tally.{Words}
 
--- an element below e, and one more
-pub none_below : (i n : ℕ) → cond (ltb i 0) n 0 ≡ 0
-none_below i n = grind (arith, nat_tests)
-
-pub one_more : (f : ℕ → ℕ) (e n i : ℕ) → n ≡ f e → cond (ltb i e) (f i) 0 + cond (eqb e i) n 0 ≡ cond (ltb i (e + 1)) (f i) 0
-one_more f e n i h = by_cases (eqb e i) refl
-  where
-    by_cases : (b : Bool) → eqb e i ≡ b → cond (ltb i e) (f i) 0 + cond (eqb e i) n 0 ≡ cond (ltb i (e + 1)) (f i) 0
-    by_cases true q = let k : e ≡ i = grind (arith, nat_tests, q) in let v : n ≡ f i = h ∙ ap f k in grind (arith, nat_tests, v)
-    by_cases false q = grind (arith, nat_tests, q)
-
 pub same_sum : (a b x y : ℕ) → a ≡ x → b ≡ y → a + b ≡ x + y
 same_sum a b x y p q = omega arith
-
--- the elements of a row that are below e
-abbrev pub row_below : List ℕ → ℕ → ℕ → ℕ
-row_below row e i = cond (ltb i e) (get_or row i 0) 0
 
 -- the row of a bag operation, as far as its table goes
 abbrev pub row_of : Sig → BagOperation → ℕ → List ℕ
 row_of s o a = take (size s o.result) (drop (a * size s o.result) o.table)
-
-pub whole : (row : List ℕ) (i : ℕ) → row_below row (length row) i ≡ get_or row i 0
-whole row i = by (ltb i (length row)) refl
-  where
-    by : (b : Bool) → ltb i (length row) ≡ b → row_below row (length row) i ≡ get_or row i 0
-    by true q = rw q
-    by false q = let past : length row ≤ i = grind (arith, nat_tests, q) in rw q (sym (get_or_past row i 0 past))
 
 front : (n : ℕ) (xs : List ℕ) (i : ℕ) → get_or (take n xs) i 0 ≡ cond (ltb i n) (get_or xs i 0) 0
 front n xs i = by (ltb i n) refl
@@ -75,3 +53,40 @@ words a b base f same w p i = by (ltb i base) (ltb i (length a)) refl refl
         let past : length b ≤ i = grind (arith, nat_tests, r, same) in
         let e = get_or_past b i 0 past in
         omega (arith, e)
+
+-- the first e counts from base on have grown as a row says, and no other
+pub record Grown (before after row : List ℕ) (base e : ℕ) : Type 0 where
+  pub below : (k : ℕ) → k < base → get_or after k 0 ≡ get_or before k 0
+  pub first : (k : ℕ) → k < e → get_or after (base + k) 0 ≡ min (get_or before (base + k) 0 + get_or row k 0) (2 ^ 32 - 1)
+  pub others : (k : ℕ) → base + e ≤ k → get_or after k 0 ≡ get_or before k 0
+
+pub grow : (before after row : List ℕ) (base e i n : ℕ) → i ≡ base + e → i < length after → n ≡ min (get_or after i 0 + get_or row e 0) (2 ^ 32 - 1) → Grown before after row base e → Grown before (set after i n) row base (e + 1)
+grow before after row base e i n at inside is g = record {
+  below = λ k h. get_or-set_other after i k n 0 (λ q. omega arith) ∙ g.below k h;
+  first = λ k h. by k h (eqb k e) refl;
+  others = λ k h. get_or-set_other after i k n 0 (λ q. omega arith) ∙ g.others k (omega arith);
+}
+  where
+    by : (k : ℕ) → k < e + 1 → (b : Bool) → eqb k e ≡ b → get_or (set after i n) (base + k) 0 ≡ min (get_or before (base + k) 0 + get_or row k 0) (2 ^ 32 - 1)
+    by k h true q =
+        let here : k ≡ e = grind (arith, nat_tests, q) in
+        let place : base + k ≡ i = omega arith in
+        let stood : get_or after i 0 ≡ get_or before i 0 = g.others i (omega arith) in
+        ap (λ j. get_or (set after i n) j 0) place ∙ get_or-set_same after i n 0 inside ∙ is
+        ∙ ap (λ m. min (m + get_or row e 0) (2 ^ 32 - 1)) (stood ∙ ap (λ j. get_or before j 0) (sym place))
+        ∙ ap (λ j. min (get_or before (base + k) 0 + get_or row j 0) (2 ^ 32 - 1)) (sym here)
+    by k h false q =
+        let fewer : k < e = grind (arith, nat_tests, q) in
+        get_or-set_other after i (base + k) n 0 (λ z. omega arith) ∙ g.first k fewer
+
+-- all that the counts have room for have grown
+pub grown : (before after row : List ℕ) (base e : ℕ) → min (length row) (length before - base) ≤ e → ((k : ℕ) → get_or before k 0 < 2 ^ 32) → Grown before after row base e → Added before after base (λ k. get_or row k 0)
+grown before after row base e all fits g = record { below = g.below; row = λ k h. by k h (ltb k e) refl }
+  where
+    by : (k : ℕ) → base + k < length before → (b : Bool) → ltb k e ≡ b → get_or after (base + k) 0 ≡ min (get_or before (base + k) 0 + get_or row k 0) (2 ^ 32 - 1)
+    by k h true q = let first : k < e = grind (arith, nat_tests, q) in g.first k first
+    by k h false q =
+        let past : e ≤ k = grind (arith, nat_tests, q) in
+        let none : get_or row k 0 ≡ 0 = get_or_past row k 0 (omega arith) in
+        let small = fits (base + k) in
+        g.others (base + k) (omega arith) ∙ omega (arith, none, small)

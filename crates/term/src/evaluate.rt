@@ -1,6 +1,6 @@
-ghost use Rattle.std.specs.Prelude.{◌≡◌};
+ghost use Rattle.std.specs.Prelude.{◌≡◌, ◌<◌, false};
 ghost use Rattle.term.specs.Meaning.{of, value as value_of};
-ghost use Rattle.term.specs.Prefix.{term_at};
+ghost use Rattle.term.specs.Prefix.{begins, term_at};
 
 use crate::signature::{Arguments, Signature, at};
 
@@ -24,6 +24,7 @@ impl<'s> Evaluator<'s> {
 
     // The same, as a step: `bytes` moves past the term. The parts of a term are evaluated by this one and not by `value`,
     // whose pair would be kept in memory for each call, which is slower.
+    #[cycle(terms)]
     fn next<'f>(&self, bytes: &mut &'f [u8], depth: u8) -> u8
         ensures value { result ≡ value_of (of self.now.signature) self.now.mode.now (term_at (of self.now.signature) depth bytes.old.now).0 }
         ensures rest { bytes.new.now ≡ (term_at (of self.now.signature) depth bytes.old.now).1 }
@@ -31,11 +32,24 @@ impl<'s> Evaluator<'s> {
         if depth == 0 {
             return 0;
         }
+        if let [0x20, v, rest @ ..] = *bytes {
+            *bytes = rest;
+            return at(self.mode, *v as usize);
+        }
+        self.next_other(bytes, depth)
+    }
+
+    // The same of a term that is no variable. On its own, so that `next` is short and inlined where it is called: half of
+    // all parts are variables, and cost no call then. Inlined itself, this would make `next` long again.
+    #[cycle(terms)]
+    #[inline(never)]
+    fn next_other<'f>(&self, bytes: &mut &'f [u8], depth: u8) -> u8
+        requires deep { 0 < depth }
+        requires other { begins 0x20 1 bytes.old.now ≡ false }
+        ensures value { result ≡ value_of (of self.now.signature) self.now.mode.now (term_at (of self.now.signature) depth bytes.old.now).0 }
+        ensures rest { bytes.new.now ≡ (term_at (of self.now.signature) depth bytes.old.now).1 }
+    {
         match *bytes {
-            [0x20, v, rest @ ..] => {
-                *bytes = rest;
-                at(self.mode, *v as usize)
-            }
             [0x21, _, element, rest @ ..] => {
                 *bytes = rest;
                 *element

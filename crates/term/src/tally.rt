@@ -56,13 +56,16 @@ fn add(counts: &mut [u32], place: u8, element: u8, n: u8)
     }
 }
 
-// Adds as many tokens of each element as a row says to the counts of a place.
+// Adds as many tokens of each element as a row says to the counts of a place. The row is cut to the counts before, so that
+// none of them needs a test and several are added to at a time.
 fn add_row(counts: &mut [u32], place: u8, row: &[u8])
-    requires few { length row.now < 256 }
     ensures { Added counts.old counts.new (64 * place) (λ e. (slice_index row.now e)) }
 {
-    for (e, n) in row.iter().enumerate() {
-        add(counts, place, e as u8, *n);
+    let from = cell(place, 0);
+    let room = counts.len().saturating_sub(from);
+    let front = &row[..row.len().min(room)];
+    for (e, n) in front.iter().enumerate() {
+        counts[from + e] = counts[from + e].saturating_add(u32::from(*n));
     }
 }
 

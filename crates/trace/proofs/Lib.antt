@@ -1,2 +1,5 @@
+pub mod Carried
 pub mod Filled
+pub mod Played
 pub mod Prefixes
+pub mod Refusals

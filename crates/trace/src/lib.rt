@@ -7,4 +7,4 @@ pub mod replays;
 
 pub use commands::Command;
 pub use recording::{EndedRecording, OpenRecording};
-pub use replays::{Replayed, Stop, replay};
+pub use replays::{Replayed, Stop, replay, replay_recording};

@@ -1,8 +1,16 @@
 ghost use Rattle.std.specs.Prelude.{◌≡◌};
+ghost use Rattle.bench.specs.Calls.{Leads, lent};
+ghost use Rattle.bench.specs.Counted.{loan};
+ghost use Rattle.lent.specs.Held as list;
+ghost use Rattle.trace.specs.Carrying.{CarryCalled};
+ghost use Rattle.trace.specs.Moves.{move_of};
+ghost use Rattle.trace.specs.Replaying.{Played, Ran, RecordingCalled, ReplayCalled, replayed};
 ghost use Rattle.trace.specs.Stops.{cell_of};
+ghost use Rattle.net.specs.Of.{system};
 
 use crate::commands::{Command, first};
-use bench::{Bench, Counts, Firing};
+use crate::recording::EndedRecording;
+use bench::{Counts, Firing, back_on, begin_on, fire_on, measure};
 use lent::list::LentList;
 use net::Net;
 use term::Fault;
@@ -45,16 +53,31 @@ pub struct Replayed {
     pub stop: Option<Stop>,
 }
 
-// Carries one command out on a bench.
-fn carry_out(bench: &mut Bench, command: Command) -> Result<(), Fault> {
+// Carries one command out on a bench's parts. The calls of a bench are made on the memory that the caller of a replay
+// lent, and not by way of a bench: a proof does not see what a bench that goes leaves there.
+fn carry_out(
+    net: &Net,
+    counts: &mut Counts,
+    trail: &mut LentList<Firing>,
+    command: Command,
+) -> Result<(), Fault>
+    requires leads { Leads (system net.now) (lent counts.old trail.old) }
+    ensures called { CarryCalled (system net.now) (move_of command) (lent counts.old trail.old) (lent counts.new trail.new) result }
+    ensures leads { Leads (system net.now) (lent counts.new trail.new) }
+    ensures counts_loan { loan counts.new ≡ loan counts.old }
+    ensures trail_loan { list.loan trail.new ≡ list.loan trail.old }
+{
     match command {
-        Command::Fire { transition, mode } => bench.fire(Firing {
-            transition: usize::from(transition),
-            mode,
-        }),
-        Command::Back => bench.back(),
+        Command::Fire { transition, mode } => {
+            let firing = Firing {
+                transition: usize::from(transition),
+                mode,
+            };
+            fire_on(net, counts, trail, firing)
+        }
+        Command::Back => back_on(net, counts, trail),
         Command::Restart => {
-            bench.restart();
+            begin_on(net, counts, trail);
             Ok(())
         }
     }
@@ -62,14 +85,45 @@ fn carry_out(bench: &mut Bench, command: Command) -> Result<(), Fault> {
 
 // Carries out the commands of `bytes` in their order, and counts them, up to the first that is turned down. The count is
 // the caller's, so that it stands after a stop too.
-fn carry_all(bench: &mut Bench, bytes: &[u8], carried: &mut u32) -> Result<(), Stop> {
+fn carry_all(
+    net: &Net,
+    counts: &mut Counts,
+    trail: &mut LentList<Firing>,
+    bytes: &[u8],
+    carried: &mut u32,
+) -> Result<(), Stop>
+    requires counted { carried.old ≡ 0 }
+    requires leads { Leads (system net.now) (lent counts.old trail.old) }
+    ensures ran { Ran (system net.now) bytes.now (lent counts.old trail.old) (lent counts.new trail.new) (replayed carried.new result) }
+    ensures leads { Leads (system net.now) (lent counts.new trail.new) }
+    ensures counts_loan { loan counts.new ≡ loan counts.old }
+    ensures trail_loan { list.loan trail.new ≡ list.loan trail.old }
+{
+    if bytes.len() > LONGEST {
+        return Err(Stop::at(Fault::TooLong, LONGEST));
+    }
     let mut rest = bytes;
     'commands: while let Some((command, next)) = first(rest, bytes.len())? {
-        carry_out(bench, command)?;
+        carry_out(net, counts, trail, command)?;
         rest = next;
         *carried = carried.saturating_add(1);
     }
     Ok(())
+}
+
+// Replays a trace on a new bench, whose counts and trail are lent.
+fn replay_on(net: &Net, counts: &mut Counts, trail: &mut LentList<Firing>, bytes: &[u8]) -> Replayed
+    ensures played { Played (system net.now) bytes.now (lent counts.old trail.old) (lent counts.new trail.new) result }
+    ensures counts_loan { loan counts.new ≡ loan counts.old }
+    ensures trail_loan { list.loan trail.new ≡ list.loan trail.old }
+{
+    begin_on(net, counts, trail);
+    let mut carried = 0;
+    let end = carry_all(net, counts, trail, bytes, &mut carried);
+    Replayed {
+        carried,
+        stop: end.err(),
+    }
 }
 
 // Replays a trace on a new bench in lent memory.
@@ -78,17 +132,24 @@ pub fn replay(
     cells: &mut [u16],
     trail: &mut LentList<Firing>,
     bytes: &[u8],
-) -> Result<Replayed, Fault> {
-    let mut counts = Counts::new(cells)?;
-    let mut bench = Bench::begin(net, &mut counts, trail);
-    let mut carried = 0;
-    let end = if bytes.len() > LONGEST {
-        Err(Stop::at(Fault::TooLong, LONGEST))
-    } else {
-        carry_all(&mut bench, bytes, &mut carried)
-    };
-    Ok(Replayed {
-        carried,
-        stop: end.err(),
-    })
+) -> Result<Replayed, Fault>
+    ensures { ReplayCalled (system net.now) bytes.now cells.old trail.old cells.new trail.new result }
+{
+    measure(cells)?;
+    let mut counts = Counts { cells };
+    Ok(replay_on(net, &mut counts, trail, bytes))
+}
+
+// Replays a recording on a new bench in lent memory: the commands put into it, up to the first that is turned down.
+pub fn replay_recording(
+    net: &Net,
+    cells: &mut [u16],
+    trail: &mut LentList<Firing>,
+    ended: &EndedRecording,
+    memory: &[u8],
+) -> Result<Replayed, Fault>
+    ensures { RecordingCalled (system net.now) memory.now ended.now cells.old trail.old cells.new trail.new result }
+{
+    let bytes = ended.trace(memory)?;
+    replay(net, cells, trail, bytes)
 }

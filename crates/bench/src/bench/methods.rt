@@ -3,13 +3,13 @@ ghost use Rattle.bench.specs.Calls.{BackCalled, Begun, CountCalled, FireCalled, 
 ghost use Rattle.net.specs.Runs.{Bounded, Reachable};
 ghost use Rattle.bench.specs.Path.{NeverFull};
 ghost use Rattle.bench.specs.Standing.{HasLoans, SameLoans, lent_of};
-ghost use Rattle.bench.specs.Values.{Related};
+ghost use Rattle.bench.specs.Values.{Capped, Related};
+ghost use Rattle.net.specs.Of.{system};
 
 use super::Bench;
-use super::steps::{checked, opened, start, undo};
-use crate::change::Change;
 use crate::counts::Counts;
-use domain::WeightDomain;
+use crate::moves::{back_on, begin_on, fire_on};
+use domain::{Measuring, WeightDomain};
 use lent::list::LentList;
 use net::{Firing, Net};
 use term::Fault;
@@ -22,60 +22,45 @@ impl<'n, 'a, 'c, 'b> Bench<'n, 'a, 'c, 'b> {
         trail: &'a mut LentList<'b, Firing>,
     ) -> Bench<'n, 'a, 'c, 'b>
         ensures net { result.net ≡ net.entry }
-        ensures begun { Begun net.now (lent counts.old trail.old) (lent_of result) }
+        ensures begun { Begun (system net.now) (lent counts.old trail.old) (lent_of result) }
         ensures lent { HasLoans counts.entry trail.entry result }
     {
-        start(net, counts, trail);
+        begin_on(net, counts, trail);
         Bench { net, counts, trail }
     }
 
     // Fires a transition in a mode, or refuses without any change. On a net whose cells all have bounds that a bench can
     // hold, no cell is ever full.
     pub fn fire(&mut self, firing: Firing) -> Result<(), Fault>
-        ensures called { FireCalled self.old.net.now firing (lent_of self.old) (lent_of self.new) result }
-        ensures never_full { NeverFull self.old.net.now result }
+        ensures called { FireCalled (system self.old.net.now) firing (lent_of self.old) (lent_of self.new) result }
+        ensures never_full { NeverFull (system self.old.net.now) result }
         ensures same { SameLoans self.old self.new }
     {
-        opened(self.net, firing)?;
-        let change = Change::of(self.net, firing);
-        checked(self.counts, &change)?;
-        match self.trail.push(firing) {
-            Ok(()) => {
-                self.counts.shift(&change);
-                Ok(())
-            }
-            Err(_) => Err(Fault::TrailFull),
-        }
+        fire_on(self.net, self.counts, self.trail, firing)
     }
 
     // Undoes the newest firing.
     pub fn back(&mut self) -> Result<(), Fault>
-        ensures called { BackCalled self.old.net.now (lent_of self.old) (lent_of self.new) result }
+        ensures called { BackCalled (system self.old.net.now) (lent_of self.old) (lent_of self.new) result }
         ensures same { SameLoans self.old self.new }
     {
-        match self.trail.pop() {
-            Some(firing) => {
-                undo(self.net, self.counts, firing);
-                Ok(())
-            }
-            None => Err(Fault::TrailEmpty),
-        }
+        back_on(self.net, self.counts, self.trail)
     }
 
     // Back to the initial marking: what `begin` does too, before there is a bench.
     pub fn restart(&mut self)
-        ensures begun { Begun self.old.net.now (lent_of self.old) (lent_of self.new) }
+        ensures begun { Begun (system self.old.net.now) (lent_of self.old) (lent_of self.new) }
         ensures same { SameLoans self.old self.new }
     {
-        start(self.net, self.counts, self.trail);
+        begin_on(self.net, self.counts, self.trail);
     }
 
     // How many tokens a cell holds. Whatever was done on the bench, a run of the net leads to its marking, and no cell
     // holds more than a bound of it.
     pub fn count(&self, cell: usize) -> Result<u16, Fault>
-        ensures called { CountCalled self.now.net.now (marking (lent_of self.now)) cell result }
-        ensures reachable { Reachable self.now.net.now (marking (lent_of self.now)) }
-        ensures bounded { (c k : ℕ) → Bounded self.now.net.now c k → marking (lent_of self.now) c ≤ k }
+        ensures called { CountCalled (system self.now.net.now) (marking (lent_of self.now)) cell result }
+        ensures reachable { Reachable (system self.now.net.now) (marking (lent_of self.now)) }
+        ensures bounded { (c k : ℕ) → Bounded (system self.now.net.now) c k → marking (lent_of self.now) c ≤ k }
     {
         if self.net.has_cell(cell) {
             Ok(self.counts.at(cell))
@@ -87,6 +72,12 @@ impl<'n, 'a, 'c, 'b> Bench<'n, 'a, 'c, 'b> {
     // Whatever was done on the bench, and whichever codes a domain accepts for its net: the initial marking's value
     // relates to that of the marking now.
     pub fn stands<D: WeightDomain>(&self, d: &D)
-        ensures { Related (D.meaning d.now) self.now.net.now (marking (lent_of self.now)) }
+        ensures { Related (D.meaning d.now) (system self.now.net.now) (marking (lent_of self.now)) }
+    {}
+
+    // Whatever was done on the bench, and whichever codes a measuring domain accepts for its net: no cell holds more than
+    // a cap that they give it.
+    pub fn keeps_caps<M: Measuring>(&self, m: &M)
+        ensures { Capped (M.WeightDomain.meaning m.now) (M.plain m.now) (system self.now.net.now) (marking (lent_of self.now)) }
     {}
 }

@@ -1,6 +1,7 @@
 ghost use Rattle.format.specs.declared.command.Direction.TheVariants.{In, Out};
 ghost use Rattle.net.specs.Nets.{arcs_of, given, side, taken};
-ghost use Rattle.bench.specs.Counted.{Counted};
+ghost use Rattle.net.specs.Runs.{Counted};
+ghost use Rattle.net.specs.Of.{system};
 
 use super::Change;
 use format::Direction;
@@ -8,8 +9,8 @@ use net::{CELLS, Firing, Net};
 
 // Takes what the firing's arcs of one direction have, and puts what those of the other have.
 fn counted(net: &Net, f: Firing, takes: Direction, puts: Direction) -> Change
-    ensures takes { Counted result.takes (side net.now f.mode (arcs_of net.now f.transition takes)) }
-    ensures puts { Counted result.puts (side net.now f.mode (arcs_of net.now f.transition puts)) }
+    ensures takes { Counted result.takes (side (system net.now) f.mode (arcs_of (system net.now) f.transition takes)) }
+    ensures puts { Counted result.puts (side (system net.now) f.mode (arcs_of (system net.now) f.transition puts)) }
 {
     let mut change = Change {
         takes: [0; CELLS],
@@ -23,16 +24,16 @@ fn counted(net: &Net, f: Firing, takes: Direction, puts: Direction) -> Change
 impl Change {
     // The change that a firing makes.
     pub fn of(net: &Net, f: Firing) -> Change
-        ensures takes { Counted result.takes (taken net.now f.transition f.mode) }
-        ensures puts { Counted result.puts (given net.now f.transition f.mode) }
+        ensures takes { Counted result.takes (taken (system net.now) f.transition f.mode) }
+        ensures puts { Counted result.puts (given (system net.now) f.transition f.mode) }
     {
         counted(net, f, Direction::In, Direction::Out)
     }
 
     // The change that undoes a firing.
     pub fn undoing(net: &Net, f: Firing) -> Change
-        ensures takes { Counted result.takes (given net.now f.transition f.mode) }
-        ensures puts { Counted result.puts (taken net.now f.transition f.mode) }
+        ensures takes { Counted result.takes (given (system net.now) f.transition f.mode) }
+        ensures puts { Counted result.puts (taken (system net.now) f.transition f.mode) }
     {
         counted(net, f, Direction::Out, Direction::In)
     }

@@ -1,4 +1,4 @@
-ghost use Rattle.std.specs.Prelude.{◌≡◌, ℕ, ◌^◌, ◌<◌, ◌≤◌, length, Some, None, Ok, Err, ◌≢◌, slice_index};
+ghost use Rattle.std.specs.Prelude.{◌≡◌, ℕ, ◌-◌, min, ◌^◌, ◌<◌, ◌≤◌, length, Some, None, Ok, Err, ◌≢◌, slice_index};
 ghost use Rattle.term.specs.declared.fault.Fault.TheVariants.{Memory};
 ghost use Rattle.bench.specs.Counted.{changed, loan, tokens};
 
@@ -36,7 +36,7 @@ impl<'c> Counts<'c> {
     }
 
     // The lowest cell that has less than is to be taken.
-    pub fn lacking(&self, change: &Change) -> Option<usize>
+    pub(crate) fn lacking(&self, change: &Change) -> Option<usize>
         ensures { elim result [ Some c ↦ (c < 1024) × (tokens self.now c < slice_index change.now.takes c) × ((k : ℕ) → k < c → slice_index change.now.takes k ≤ tokens self.now k) | None ↦ ((k : ℕ) → k < 1024 → slice_index change.now.takes k ≤ tokens self.now k) ] }
     {
         self.cells
@@ -46,7 +46,7 @@ impl<'c> Counts<'c> {
     }
 
     // The lowest cell that would pass 65,535 once the tokens are taken and put.
-    pub fn passing(&self, change: &Change) -> Option<usize>
+    pub(crate) fn passing(&self, change: &Change) -> Option<usize>
         ensures { elim result [ Some c ↦ (c < 1024) × (2 ^ 16 ≤ changed self.now change.now c) × ((k : ℕ) → k < c → changed self.now change.now k < 2 ^ 16) | None ↦ ((k : ℕ) → k < 1024 → changed self.now change.now k < 2 ^ 16) ] }
     {
         self.cells
@@ -59,8 +59,8 @@ impl<'c> Counts<'c> {
     }
 
     // Makes a change of the counts; what passes 65,535 is held at it.
-    pub fn shift(&mut self, change: &Change)
-        ensures shifted { (k : ℕ) → k < 1024 → changed self.old change.now k < 2 ^ 16 → tokens self.new k ≡ changed self.old change.now k }
+    pub(crate) fn shift(&mut self, change: &Change)
+        ensures shifted { (k : ℕ) → k < 1024 → tokens self.new k ≡ min (changed self.old change.now k) (2 ^ 16 - 1) }
         ensures loan { loan self.new ≡ loan self.old }
     {
         // over a zip of `iter_mut`, a proof knows nothing of the cells
@@ -71,7 +71,7 @@ impl<'c> Counts<'c> {
     }
 
     // Makes the counts those of a marking.
-    pub fn reset(&mut self, start: &[u16; CELLS])
+    pub(crate) fn reset(&mut self, start: &[u16; CELLS])
         ensures value { (k : ℕ) → k < 1024 → tokens self.new k ≡ slice_index start.now k }
         ensures small { (k : ℕ) → k < 1024 → tokens self.new k < 2 ^ 16 }
         ensures loan { loan self.new ≡ loan self.old }

@@ -1,16 +1,18 @@
 // What judging and firing ask of a net.
-ghost use Rattle.std.specs.Prelude.{◌≡◌, ◌/◌, ◌<◌, ◌≤◌, length, vec_items, vec_len, MatchOption};
+ghost use Rattle.std.specs.Prelude.{◌≡◌, ◌≢◌, ◌/◌, ◌<◌, ◌≤◌, length, map, MatchOption};
 ghost use Rattle.term.specs.Meaning.{of};
-ghost use Rattle.term.specs.Worth.{Weighs, value_of};
+ghost use Rattle.term.specs.Worth.{value_of};
 ghost use Rattle.domain.specs.Meaning.{Tells};
-ghost use Rattle.format.specs.Format.{mode_count, place_size};
-ghost use Rattle.net.specs.Nets.{HasCell, IsKind, Mode, Tallied, arcs_of, codes_of, digit, given, guard_holds, load, mode_of, side, sig, taken, transition};
+ghost use Rattle.format.specs.Format.{mode_count};
+ghost use Rattle.net.specs.Nets.{ExactlyTallied, HasCell, IsKind, Mode, Tallied, arcs_of, codes_of, digit, given, guard_holds, mode_of, side, taken, transition};
+ghost use Rattle.net.specs.Of.{system};
+ghost use Rattle.net.specs.Spans.{arc_told};
 
 use super::{CELLS, Net};
 use crate::firing::Firing;
 use crate::parts::Arc;
 use domain::{Kind, WeightDomain, Weights};
-use format::{DEPTH, Direction, modes, place_size};
+use format::{DEPTH, Direction, modes};
 use term::Evaluator;
 
 // The mode number `i`, the last variable fastest.
@@ -45,82 +47,76 @@ fn below(mode: [u8; 4], sizes: [u8; 4]) -> bool
 impl Net {
     // What the terms and bags of this net are evaluated in, in a mode.
     fn evaluator<'s>(&'s self, mode: &'s [u8; 4]) -> Evaluator<'s>
-        ensures signature { of result.signature ≡ sig self.now }
+        ensures signature { of result.signature ≡ (system self.now).sig }
         ensures mode { result.mode.now ≡ mode.now }
     {
         Evaluator {
-            signature: self.signature(),
+            signature: self.parts.signature(),
             mode,
         }
     }
 
     // How many transitions there are.
     pub fn transitions(&self) -> usize
-        ensures { result ≡ vec_len self.now.transitions }
+        ensures { result ≡ length (system self.now).transitions }
     {
-        self.transitions.len()
+        self.parts.transitions.len()
     }
 
     // How many claims there are.
     pub fn claims(&self) -> usize
-        ensures { result ≡ vec_len self.now.claims }
+        ensures { result ≡ length (system self.now).claims }
     {
-        self.claims.len()
+        self.parts.claims.len()
     }
 
     // The kind of a claim.
     pub fn kind(&self, claim: usize) -> Option<Kind>
-        ensures { MatchOption result (vec_len self.now.claims ≤ claim) (λ k. IsKind self.now claim k) }
+        ensures { MatchOption result (length (system self.now).claims ≤ claim) (λ k. IsKind (system self.now) claim k) }
     {
-        self.claims.get(claim).map(|c| c.kind)
+        self.parts.claims.get(claim).map(|c| c.kind)
     }
 
     // Writes the codes of a claim into memory of the stated length, and nothing else.
     pub fn write_codes(&self, claim: usize, codes: &mut [i32])
-        ensures written { claim < vec_len self.now.claims → length codes.old ≡ 1024 → codes.new ≡ codes_of self.now claim }
-        ensures none { vec_len self.now.claims ≤ claim → codes.new ≡ codes.old }
+        ensures written { claim < length (system self.now).claims → length codes.old ≡ 1024 → codes.new ≡ codes_of (system self.now) claim }
+        ensures none { length (system self.now).claims ≤ claim → codes.new ≡ codes.old }
+        ensures other { length codes.old ≢ 1024 → codes.new ≡ codes.old }
     {
-        if let Some(claim) = self.claims.get(claim)
+        if let Some(claim) = self.parts.claims.get(claim)
             && codes.len() == CELLS
         {
             codes.copy_from_slice(&claim.codes);
         }
     }
 
-    // How many elements a place has, 0 where there is no such place.
-    pub(crate) fn elements(&self, place: u8) -> u8
-        ensures { result ≡ place_size (vec_items self.now.sizes) (vec_items self.now.places) place }
-    {
-        place_size(self.sizes.as_slice(), self.places.as_slice(), place)
-    }
-
     // Whether the net has this cell: a place of it, and an element of that place's sort.
     pub fn has_cell(&self, cell: usize) -> bool
-        ensures { Tells result (HasCell self.now cell) }
+        ensures { Tells result (HasCell (system self.now) cell) }
     {
-        cell < CELLS && ((cell % 64) as u8) < self.elements((cell / 64) as u8)
+        cell < CELLS && ((cell % 64) as u8) < self.parts.elements((cell / 64) as u8)
     }
 
     // The initial marking.
     pub fn initial(&self) -> &[u16; CELLS]
-        ensures { result.now ≡ self.now.initial }
+        ensures { result.now ≡ (system self.now).initial }
     {
-        &self.initial
+        &self.parts.initial
     }
 
     // How many modes a transition has.
     pub fn modes(&self, t: usize) -> u32
-        ensures { result ≡ mode_count (transition self.now t).sizes }
+        ensures { result ≡ mode_count (transition (system self.now) t).sizes }
     {
-        self.transitions.get(t).map_or(0, |t| modes(t.sizes))
+        self.parts.transition(t).map_or(0, |t| modes(t.sizes))
     }
 
     // The mode number `i` of a transition, the last variable fastest.
     pub fn mode(&self, t: usize, i: u32) -> [u8; 4]
-        ensures { result ≡ mode_of (transition self.now t).sizes i }
+        ensures { result ≡ mode_of (transition (system self.now) t).sizes i }
     {
         // no `map_or`: its proof stays open
-        let Some(t) = self.transitions.get(t) else {
+        let Some(t) = self.parts.transition(t) else {
             return [0; 4];
         };
         mode_at(t.sizes, i)
@@ -128,39 +124,37 @@ impl Net {
 
     // Whether each number of a mode is an element of its variable's sort, and 0 where there is no variable.
     pub fn is_mode(&self, f: Firing) -> bool
-        ensures { Tells result (Mode (transition self.now f.transition).sizes f.mode) }
+        ensures { Tells result (Mode (transition (system self.now) f.transition).sizes f.mode) }
     {
-        self.transitions
-            .get(f.transition)
+        self.parts
+            .transition(f.transition)
             .is_some_and(|t| below(f.mode, t.sizes))
     }
 
     // Whether the guard of a transition is true in a mode.
     pub fn guard(&self, f: Firing) -> bool
-        ensures { result ≡ guard_holds self.now f.transition f.mode }
+        ensures { result ≡ guard_holds (system self.now) f.transition f.mode }
     {
-        let Some(t) = self.transitions.get(f.transition) else {
-            return true;
-        };
-        let Some(term) = &t.guard else {
+        let Some(term) = self.parts.guard(f.transition) else {
             return true;
         };
         let evaluator = self.evaluator(&f.mode);
-        let (v, _) = evaluator.value(term.as_slice(), DEPTH);
+        let (v, _) = evaluator.value(term, DEPTH);
         v == 1
     }
 
     // The arcs of a transition that go one way.
     fn arcs_of(&self, t: usize, direction: Direction) -> &[Arc]
-        ensures { result.now ≡ arcs_of self.now t direction }
+        ensures { map arc_told result.now ≡ arcs_of (system self.now) t direction }
     {
-        self.transitions.get(t).map_or(&[], |t| t.arcs(direction))
+        self.parts.transition(t).map_or(&[], |t| t.arcs(direction))
     }
 
     // Adds what a transition takes or puts in a mode to the counts. This loop and that of `weigh` stay two: one would
     // need term's walk with its laws out here, for two loops of one call each.
     pub fn count(&self, f: Firing, direction: Direction, counts: &mut [u32])
-        ensures { Tallied counts.old counts.new (side self.now f.mode (arcs_of self.now f.transition direction)) }
+        ensures held { Tallied counts.old counts.new (side (system self.now) f.mode (arcs_of (system self.now) f.transition direction)) }
+        ensures exact { ExactlyTallied counts.old counts.new (side (system self.now) f.mode (arcs_of (system self.now) f.transition direction)) }
     {
         let evaluator = self.evaluator(&f.mode);
         for arc in self.arcs_of(f.transition, direction) {
@@ -175,7 +169,7 @@ impl Net {
         direction: Direction,
         weights: &Weights<D>,
     ) -> D::Value
-        ensures { Weighs (D.meaning weights.now.domain.now) weights.now.codes.now (D.meaning weights.now.domain.now).nil (side self.now f.mode (arcs_of self.now f.transition direction)) (load self.now (arcs_of self.now f.transition direction)) result }
+        ensures { result ≡ value_of (D.meaning weights.now.domain.now) weights.now.codes.now (side (system self.now) f.mode (arcs_of (system self.now) f.transition direction)) }
     {
         let evaluator = self.evaluator(&f.mode);
         let mut sum = weights.domain.zero();
@@ -187,8 +181,8 @@ impl Net {
 
     // The values before and after: of what a transition takes in a mode, and of what it puts.
     pub fn sums<D: WeightDomain>(&self, f: Firing, weights: &Weights<D>) -> (D::Value, D::Value)
-        ensures before { result.0 ≡ value_of (D.meaning weights.now.domain.now) weights.now.codes.now (taken self.now f.transition f.mode) }
-        ensures after { result.1 ≡ value_of (D.meaning weights.now.domain.now) weights.now.codes.now (given self.now f.transition f.mode) }
+        ensures before { result.0 ≡ value_of (D.meaning weights.now.domain.now) weights.now.codes.now (taken (system self.now) f.transition f.mode) }
+        ensures after { result.1 ≡ value_of (D.meaning weights.now.domain.now) weights.now.codes.now (given (system self.now) f.transition f.mode) }
     {
         (
             self.weigh(f, Direction::In, weights),

@@ -1,6 +1,6 @@
 use Rattle.std.proofs.Common.{◌≡◌, true, Err, Ok, is_err, ℤ, List, sym, ◌∙◌, subst, true≢false, rules}
 use Rattle.judge.specs.declared.verdict.Breach.{Breach}
-use Rattle.judge.specs.Calls.{AllWeigh, Called, VerdictOn, lent}
+use Rattle.judge.specs.Calls.{AllWeigh, Called, VerdictOn, lent, net_of}
 use Rattle.judge.specs.Caps.{AllPlain, Asked}
 use Rattle.judge.specs.Judged.{Verdict}
 use Rattle.judge.proofs.Limits.{limits}
@@ -15,7 +15,7 @@ pub returns-then-is_err-clause-asked : goal.returns-then-is_err-clause-asked
 returns-then-is_err-clause-asked g c =
     let d = g.M.WeightDomain.meaning c.args.m.now in
     let plain = g.M.Measuring.plain c.args.m.now in
-    let n = c.args.self.now.net.now in
+    let n = net_of c.args.self.now in
     let k = c.judge_codes.new.self in
     let r = c.judge_codes.result in
     let begun = c.in_ok-begin_cap.ensures in
@@ -31,7 +31,7 @@ pub returns-clause-limits : goal.returns-clause-limits
 returns-clause-limits g c =
     let m = c.args.m.now in
     let k = c.judge_codes.new.self in
-    let n = c.args.self.now.net.now in
+    let n = net_of c.args.self.now in
     let asked : Asked (g.M.WeightDomain.meaning m) (g.M.Measuring.plain m) n c.args.claim c.args.cell (lent c.args.self.now) (lent k) (Ok c.room.result) = search rules in
     limits (g.met.M.WeightDomain.lawful m) (g.met.M.Measuring.measured m) n c.args.claim c.args.cell (lent c.args.self.now) (lent k) c.room.result
     (c.judge_codes.ensures.same.codes.long ∙ c.in_ok-load_codes.ensures.same.codes.long ∙ c.in_ok-begin_cap.ensures.0.codes_long) asked

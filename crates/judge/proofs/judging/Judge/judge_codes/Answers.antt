@@ -1,3 +1,4 @@
+use Rattle.judge.specs.Calls.{net_of}
 use Rattle.judge.proofs.Markings.{exactly, keeps, right}
 use Rattle.judge.proofs.judging.Judge.judge_codes.Goals as goal
 
@@ -6,7 +7,7 @@ returns-clause-verdict g c =
     let d = g.D.WeightDomain.meaning c.args.d.now in
     let law = g.met.D.WeightDomain.lawful c.args.d.now in
     let codes = c.args.self.now.codes.now in
-    let n = c.args.self.now.net.now in
+    let n = net_of c.args.self.now in
     let r = c.judge_all-verdict.result in
     let long = c.requires.codes_long in
     let judged = c.judge_all-verdict.ensures in

@@ -1,9 +1,8 @@
-use Rattle.std.proofs.Common.{◌≡◌, ℕ, ◌<◌, ◌++◌, ◌∷◌, [], length, set, vec_len, subst, arith, rules, length-take}
-use Rattle.std.proofs.lemmas.Result.{err_from_is_err_and}
+use Rattle.std.proofs.Common.{◌≡◌, ℕ, ◌<◌, ◌++◌, ◌∷◌, [], length, set, subst, arith, rules, length-take}
 use Rattle.lent.specs.Held.{held, memory}
-use Rattle.judge.specs.Calls.{lent}
+use Rattle.judge.specs.Calls.{lent, net_of}
 use Rattle.judge.specs.Surveys.{Added}
-use Rattle.judge.proofs.Refusals.{by_its_kind, still_fits, stopped}
+use Rattle.judge.proofs.Refusals.{by_its_kind, refused, still_fits}
 use Rattle.judge.proofs.Sheets.{added_more, added_none, still_room}
 use Rattle.judge.proofs.judging.Judge.survey.Goals as goal
 
@@ -14,27 +13,26 @@ loop-claim-init c =
       same = search rules;
       named = search rules;
       ready = record { fits = c.if-not-is_measured.ensures; room = omega (arith, length-take sheet.len (memory sheet)) };
-      added = added_none c.args.self.now.net.now (lent c.args.self.now) sheet;
+      added = added_none (net_of c.args.self.now) (lent c.args.self.now) sheet;
     }
 
 pub returns-in_err-outcome-clause-surveyed : goal.returns-in_err-outcome-clause-surveyed
 returns-in_err-outcome-clause-surveyed c =
-    let p = err_from_is_err_and c.from_residual.result c.from_residual.ensures.1 in
-    let n = c.args.self.now.net.now in
+    let n = net_of c.args.self.now in
     let i = c.loop-claim.claim in
     let inv = c.loop-claim.invariant in
-    let there : i < vec_len n.claims = omega (arith, c.claims-claim-end.ensures) in
-    rw (p.1, p.2) (stopped n i (lent c.args.self.now) (lent c.loop-claim.self) (lent c.judge_by_kind.new.self) c.args.sheet.now c.loop-claim.sheet c.in_err-outcome.field-0.0 inv.ready there
-    (still_fits _ _ inv.same inv.ready.fits) inv.added (by_its_kind n i _ _ _ there (rw inv.same.net at c.in_err-outcome.ensures.kinds)))
+    let there : i < length n.claims = omega (arith, c.claims-claim-end.ensures) in
+    absurd (refused n i (lent c.loop-claim.self) (lent c.judge_by_kind.new.self) (still_fits _ _ inv.same inv.ready.fits) there c.in_err-outcome.field-0.0
+    (by_its_kind n i _ _ _ there (rw inv.same.net at c.in_err-outcome.ensures.kinds)) c.in_err-outcome.ensures.weighed)
 
 pub loop-claim-preserved : goal.loop-claim-preserved
 loop-claim-preserved c =
-    let n = c.args.self.now.net.now in
+    let n = net_of c.args.self.now in
     let i = c.loop-claim.claim in
     let inv = c.loop-claim.invariant in
     let s = c.loop-claim.sheet in
     let t = c.push.new.self in
-    let there : i < vec_len n.claims = omega (arith, c.claims-claim-end.ensures) in
+    let there : i < length n.claims = omega (arith, c.claims-claim-end.ensures) in
     let room : length (held s) < length (memory s) = still_room n (lent c.args.self.now) c.args.sheet.now (lent c.loop-claim.self) s i inv.ready inv.added there in
     let behind : held t ≡ held s ++ c.in_ok-outcome.outcome ∷ [] = search rules in
     let written : memory t ≡ set (memory s) (length (held s)) c.in_ok-outcome.outcome = search rules in
@@ -48,7 +46,7 @@ loop-claim-preserved c =
 
 pub returns-clause-surveyed : goal.returns-clause-surveyed
 returns-clause-surveyed c =
-    let n = c.args.self.now.net.now in
+    let n = net_of c.args.self.now in
     let inv = c.loop-claim.invariant in
-    let all : c.loop-claim.claim ≡ vec_len n.claims = omega (arith, c.claims-claim-end.ensures) in
+    let all : c.loop-claim.claim ≡ length n.claims = omega (arith, c.claims-claim-end.ensures) in
     (inv.ready, subst (λ (i : ℕ). Added n (lent c.args.self.now) (lent c.loop-claim.self) c.args.sheet.now c.loop-claim.sheet i) all inv.added)

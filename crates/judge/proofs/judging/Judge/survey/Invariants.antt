@@ -1,5 +1,5 @@
 use Rattle.std.proofs.Common.{◌≡◌}
-use Rattle.judge.specs.Calls.{SameLoans, lent}
+use Rattle.judge.specs.Calls.{SameLoans, lent, net_of}
 use Rattle.judge.specs.Surveys.{Added, Ready}
 use Rattle.judge.proofs.judging.Judge.survey.Given as goal
 
@@ -8,6 +8,6 @@ abbrev pub invariant-loop-claim : goal.invariant-loop-claim
 invariant-loop-claim l = record {
   same : SameLoans l.fn.self l.self;
   named : l.sheet.items.ghost_name ≡ l.fn.sheet.items.ghost_name;
-  ready : Ready l.fn.self.net.now (lent l.fn.self) l.fn.sheet;
-  added : Added l.fn.self.net.now (lent l.fn.self) (lent l.self) l.fn.sheet l.sheet l.claim;
+  ready : Ready (net_of l.fn.self) (lent l.fn.self) l.fn.sheet;
+  added : Added (net_of l.fn.self) (lent l.fn.self) (lent l.self) l.fn.sheet l.sheet l.claim;
 }

@@ -1,17 +1,30 @@
-use Rattle.std.proofs.Common.{take}
+use Rattle.std.proofs.Common.{List, map, take, ap, ◌∙◌, subst, arith, take_all}
 use Rattle.term.specs.Meaning.{count}
-use Rattle.net.specs.Nets.{bag_of, side, sig}
+use Rattle.net.specs.Nets.{Tallied, bag_of, side}
+use Rattle.net.specs.Of.{system}
+use Rattle.net.specs.Spans.{Arc, arc_told}
+use Rattle.net.proofs.Every.{counted}
 use Rattle.net.proofs.Sides.{side_more}
 use Rattle.net.proofs.Tallied.{alike, more}
 use Rattle.net.proofs.net.Net.count.Goals as goal
 
 pub loop-arc-preserved : goal.loop-arc-preserved
 loop-arc-preserved c =
-    let n = c.args.self.now in
+    let n = system c.args.self.now in
     let m = c.args.f.mode in
     let items = c.arcs_of-arc-items.result.now in
     let i = c.loop-arc.arc-index in
     let a = c.arc-item.result in
     let added = rw (c.evaluator-evaluator.ensures.signature, c.evaluator-evaluator.ensures.mode, c.as_slice.ensures.value) at c.count_bag.ensures.counts in
-    alike _ _ _ _ (side_more n items i a c.loop-arc-test.true c.arc-item.is m)
-    (more _ _ _ (side n m (take i items)) a.place (count (sig n) m (bag_of n a)) c.loop-arc.auto.counts c.loop-arc.invariant added)
+    alike _ _ _ _ (side_more items i a c.loop-arc-test.true c.arc-item.is n m)
+    (more _ _ _ (side n m (map arc_told (take i items))) a.place (count n.sig m (bag_of n (arc_told a))) c.loop-arc.auto.counts c.loop-arc.invariant added)
+
+pub returns-clause-exact : goal.returns-clause-exact
+returns-clause-exact c =
+    let n = system c.args.self.now in
+    let m = c.args.f.mode in
+    let t = c.args.f.transition in
+    let d = c.args.direction in
+    let items = c.arcs_of-arc-items.result.now in
+    let all = ap (map arc_told) (take_all c.loop-arc.arc-index items (omega (arith, c.loop-arc-test.false))) ∙ c.arcs_of-arc-items.ensures in
+    counted c.args.self.now m t d c.args.counts.now c.loop-arc.counts (subst (λ (xs : List Arc). Tallied c.args.counts.now c.loop-arc.counts (side n m xs)) all c.loop-arc.invariant)

@@ -1,10 +1,14 @@
-use Rattle.std.proofs.Common.{take}
+use Rattle.std.proofs.Common.{map, take}
 use Rattle.term.specs.Worth.{Weighs}
-use Rattle.net.specs.Nets.{load, side}
+use Rattle.net.specs.Nets.{side}
+use Rattle.net.specs.Of.{system}
+use Rattle.net.specs.Spans.{arc_told}
+use Rattle.net.proofs.Sides.{load}
 use Rattle.net.proofs.net.Net.weigh.Given as goal
 
 -- the arcs so far are weighed
 abbrev pub invariant-loop-arc : goal.invariant-loop-arc
 invariant-loop-arc g l =
+    let so_far = map arc_told (take l.arc-index l.arc-items) in
     let d = g.D.WeightDomain.meaning l.weights.domain.now in
-    Weighs d l.weights.codes.now d.nil (side l.self l.fn.f.mode (take l.arc-index l.arc-items)) (load l.self (take l.arc-index l.arc-items)) l.sum
+    Weighs d l.weights.codes.now d.nil (side (system l.self) l.fn.f.mode so_far) (load (system l.self) so_far) l.sum

@@ -1,0 +1,112 @@
+-- What holds of every net that a file tells: its terms are of their sorts, and its numbers are in their ranges.
+use Rattle.std.specs.Prelude.{◌≡◌, ℕ, ◌+◌, ◌*◌, ◌^◌, ◌<◌, ◌≤◌, true, List, length, pos, Some, None, Option, slice_index, slice_index_or, sum_by}
+use Rattle.std.specs.List.{All}
+use Rattle.std.specs.Option.{option_map_or}
+use Rattle.domain.specs.Kinds.{kind_weighs}
+use Rattle.format.specs.Format.{combinations, mode_count, size_of, variable_sizes}
+use Rattle.term.specs.declared.signature.Arguments.{Arguments}
+use Rattle.term.specs.declared.signature.Arguments.TheVariants as arguments
+use Rattle.term.specs.Meaning.{BagOperation, Operation, Sig, bag_sorted, sorted}
+use Rattle.term.specs.Prefix.{bag_at, term_at}
+use Rattle.net.specs.declared.parts.Claim.{Claim}
+use Rattle.net.specs.Nets.{HasCell, depth}
+use Rattle.net.specs.Reading.{arc_count}
+use Rattle.net.specs.Spans.{Arc, spans}
+use Rattle.net.specs.System.{SystemNet, Transition}
+use Rattle.net.specs.Written.{bag_bytes, term_bytes}
+
+-- each byte is below 256
+abbrev pub Bytes : List ℕ → Type 0
+Bytes bs = All (λ b. b < 256) bs
+
+-- a sort is declared, where sorts have these sizes
+abbrev pub Declared : List ℕ → ℕ → Type 0
+Declared sizes k = k < length sizes
+
+-- the sort of each argument is declared
+abbrev pub ArgumentsDeclared : List ℕ → Arguments → Type 0
+ArgumentsDeclared sizes arguments.None = Unit {0}
+ArgumentsDeclared sizes (arguments.One a) = Declared sizes a
+ArgumentsDeclared sizes (arguments.Two a b) = Declared sizes a × Declared sizes b
+
+-- an operation has a result for each combination of its arguments: an element of its result sort
+pub record SoundOperation (sizes : List ℕ) (o : Operation) : Type 0 where
+  pub arguments : ArgumentsDeclared sizes o.arguments
+  pub result : Declared sizes o.result
+  pub whole : length o.table ≡ combinations sizes o.arguments
+  pub results : All (λ e. e < size_of sizes o.result) o.table
+
+-- a bag operation has for each argument a count for each element of its result sort, below 256
+pub record SoundBagOperation (sizes : List ℕ) (o : BagOperation) : Type 0 where
+  pub argument : Declared sizes o.argument
+  pub result : Declared sizes o.result
+  pub whole : length o.table ≡ size_of sizes o.argument * size_of sizes o.result
+  pub counts : Bytes o.table
+
+-- bytes are one term of the sort want, in variables of these sorts, and nothing else
+pub record IsTerm (s : Sig) (vars : List ℕ) (want : ℕ) (bs : List ℕ) : Type 0 where
+  pub over : sorted s vars want (term_at s depth bs).0 ≡ true
+  pub bytes : bs ≡ term_bytes s (term_at s depth bs).0
+
+-- bytes are one bag over the sort want, and nothing else
+pub record IsBag (s : Sig) (vars : List ℕ) (want : ℕ) (bs : List ℕ) : Type 0 where
+  pub over : bag_sorted s vars want (bag_at s depth bs).0 ≡ true
+  pub bytes : bs ≡ bag_bytes s (bag_at s depth bs).0
+
+-- a guard is a term of sort 0 in the transition's variables
+abbrev pub SoundGuard : Sig → List ℕ → Option (List ℕ) → Type 0
+SoundGuard s vars None = Unit {0}
+SoundGuard s vars (Some g) = IsTerm s vars 0 g
+
+-- an arc's place is declared, and its bag is one over the place's sort
+pub record SoundArc (s : Sig) (places vars : List ℕ) (a : Arc) : Type 0 where
+  pub place : a.place < length places
+  pub bag : IsBag s vars (slice_index places a.place) a.bag
+
+-- a transition has at most 4 variables, of declared sorts, and at most 65,536 modes
+pub record SoundTransition (s : Sig) (places : List ℕ) (t : Transition) : Type 0 where
+  pub few : length t.sorts ≤ 4
+  pub sorts : All (Declared s.sizes) t.sorts
+  pub sizes : t.sizes ≡ variable_sizes s.sizes (length t.sorts) t.sorts
+  pub modes : mode_count t.sizes ≤ 65536
+  pub guard : SoundGuard s t.sorts t.guard
+  pub takes : All (SoundArc s places t.sorts) t.takes
+  pub puts : All (SoundArc s places t.sorts) t.puts
+
+-- a claim has 1,024 codes, which are weights of its kind
+pub record SoundClaim (k : Claim) : Type 0 where
+  pub long : length k.codes ≡ 1024
+  pub weights : All (λ c. kind_weighs k.kind c ≡ true) k.codes
+
+-- how many bytes a transition's guard and bags have
+abbrev pub bytes_of : Transition → ℕ
+bytes_of t = option_map_or length t.guard 0 + (spans t.takes + spans t.puts)
+
+-- a net within all limits of a net file, whose terms are of the right sorts
+pub record Sound (n : SystemNet) : Type 0 where
+  -- at most 8 sorts; sort 0 has two elements, and every sort 1 to 64
+  pub sorts : length n.sig.sizes ≤ 8
+  pub truths : size_of n.sig.sizes 0 ≡ 2
+  pub inhabited : All (λ k. 1 ≤ k) n.sig.sizes
+  pub sizes : All (λ k. k ≤ 64) n.sig.sizes
+  -- at most 32 operations and 8 bag operations
+  pub few_operations : length n.sig.operations ≤ 32
+  pub operations : All (SoundOperation n.sig.sizes) n.sig.operations
+  pub few_bags : length n.sig.bags ≤ 8
+  pub bags : All (SoundBagOperation n.sig.sizes) n.sig.bags
+  -- at most 16 places, of declared sorts
+  pub few_places : length n.places ≤ 16
+  pub places : All (Declared n.sig.sizes) n.places
+  -- the initial marking has 1,024 counts of 16 bits; one that is of no cell is 0
+  pub marked : length n.initial ≡ 1024
+  pub counts : All (λ k. k < 2 ^ 16) n.initial
+  pub unmarked : (c : ℕ) → (HasCell n c → ⊥) → slice_index n.initial c ≡ 0
+  -- at most 32 transitions and 128 arcs; guards and bags have no more bytes than the longest file
+  pub few_transitions : length n.transitions ≤ 32
+  pub transitions : All (SoundTransition n.sig n.places) n.transitions
+  pub few_arcs : arc_count n ≤ 128
+  pub short : sum_by bytes_of n.transitions ≤ 65536
+  -- at most 16 claims; a code that is of no cell is 0
+  pub few_claims : length n.claims ≤ 16
+  pub claims : All SoundClaim n.claims
+  pub uncoded : All (λ k. (c : ℕ) → (HasCell n c → ⊥) → slice_index_or k.codes c (pos 0) ≡ pos 0) n.claims

@@ -1,0 +1,317 @@
+// The parts of a net as it is read, command by command.
+ghost use Rattle.std.specs.Prelude.{◌≡◌, ◌-◌, ◌^◌, min, IfOk, OnOk, slice_set, vec_items};
+ghost use Rattle.domain.specs.Kinds.{kind_modulus, kind_number};
+ghost use Rattle.term.specs.Meaning.{of};
+ghost use Rattle.format.specs.Commands.{arc, arity, bag_operation, claim, element_weight, first, guard, operation, place_weight, said_of, second, tokens, transition};
+ghost use Rattle.format.specs.Format.{setting_of};
+ghost use Rattle.net.specs.Nets.{no_claim};
+ghost use Rattle.net.specs.Reading.{add, arc_count, arcs_in, coded, empty, full, guarded, linked, newest, setting, unweighted};
+ghost use Rattle.net.specs.Spans.{arc_told};
+ghost use Rattle.net.specs.System.{no_transition, told_by, transition_told};
+
+use super::{Arc, Claim, Parts, Transition};
+use crate::net::CELLS;
+use domain::Kind;
+use format::{Code, Command, Context, Direction, variable_sizes};
+use std::alloc::{AllocError, Global};
+use term::{Arguments, BagOperation, Checker, Operation, Signature, cell};
+
+// At most so many of each stand in a file.
+const SORTS: usize = 8;
+
+const OPERATIONS: usize = 32;
+
+const BAG_OPERATIONS: usize = 8;
+
+const PLACES: usize = 16;
+
+const TRANSITIONS: usize = 32;
+
+const ARCS: usize = 128;
+
+const CLAIMS: usize = 16;
+
+impl Transition {
+    // How many arcs there are, both directions together.
+    fn arc_count(&self) -> usize
+        ensures { result ≡ arcs_in (transition_told self.now) }
+    {
+        self.takes.len() + self.puts.len()
+    }
+
+    fn set_guard(&mut self, term: Vec<u8>)
+        ensures { transition_told self.new ≡ guarded (vec_items term) (transition_told self.old) }
+    {
+        self.guard = Some(term);
+    }
+
+    // Adds an arc that goes one way.
+    fn add(&mut self, direction: Direction, arc: Arc) -> Result<(), AllocError>
+        ensures { OnOk result (transition_told self.new ≡ linked direction (arc_told arc) (transition_told self.old)) }
+    {
+        match direction {
+            Direction::In => self.takes.push(arc)?,
+            Direction::Out => self.puts.push(arc)?,
+        }
+        Ok(())
+    }
+}
+
+impl Claim {
+    // One without weights.
+    fn new(kind: Kind) -> Claim
+        ensures { result ≡ unweighted kind }
+    {
+        Claim {
+            kind,
+            codes: [0; CELLS],
+        }
+    }
+
+    // Gives a cell a code, if there is such a cell.
+    fn set(&mut self, cell: usize, code: i32)
+        ensures { self.new ≡ coded (λ xs. slice_set xs cell code) self.old }
+    {
+        if cell < CELLS {
+            self.codes[cell] = code;
+        }
+    }
+}
+
+impl Parts {
+    // Those of the empty net: sort 0 alone, which has two elements.
+    pub(crate) fn new(heap: Global) -> Result<Parts, AllocError>
+        ensures { IfOk result (λ p. told_by p ≡ empty) }
+    {
+        Ok(Parts {
+            sizes: vec![in heap; 2]?,
+            operations: Vec::new(heap),
+            bags: Vec::new(heap),
+            places: Vec::new(heap),
+            initial: [0; CELLS],
+            transitions: Vec::new(heap),
+            claims: Vec::new(heap),
+        })
+    }
+
+    // Back to those of the empty net.
+    pub(crate) fn clear(&mut self)
+        ensures { told_by self.new ≡ empty }
+    {
+        self.sizes.truncate(1);
+        self.operations.clear();
+        self.bags.clear();
+        self.places.clear();
+        self.initial = [0; CELLS];
+        self.transitions.clear();
+        self.claims.clear();
+    }
+
+    // Whether one more command of this code would pass a limit.
+    pub(crate) fn is_full(&self, code: Code) -> bool
+        ensures { result ≡ full (told_by self.now) code }
+    {
+        match code {
+            Code::Sort => self.sizes.len() >= SORTS,
+            Code::Operation => self.operations.len() >= OPERATIONS,
+            Code::BagOperation => self.bags.len() >= BAG_OPERATIONS,
+            Code::Place => self.places.len() >= PLACES,
+            Code::Transition => self.transitions.len() >= TRANSITIONS,
+            Code::InArc | Code::OutArc => self.arc_count() >= ARCS,
+            Code::Claim => self.claims.len() >= CLAIMS,
+            Code::Tokens | Code::Guard | Code::PlaceWeight | Code::ElementWeight | Code::End =>
+                false,
+        }
+    }
+
+    // How many arcs there are.
+    fn arc_count(&self) -> usize
+        ensures { result ≡ min (arc_count (told_by self.now)) (2 ^ 64 - 1) }
+    {
+        self.transitions
+            .iter()
+            .fold(0, |n: usize, t| n.saturating_add(t.arc_count()))
+    }
+
+    pub(crate) fn signature(&self) -> Signature<'_>
+        ensures { of result ≡ (told_by self.now).sig }
+    {
+        Signature {
+            sizes: self.sizes.as_slice(),
+            operations: self.operations.as_slice(),
+            bags: self.bags.as_slice(),
+        }
+    }
+
+    // What the operands of the next command are read by, in a file of `ends` bytes.
+    pub(crate) fn context(&self, ends: usize) -> Context<'_>
+        ensures { setting_of result ≡ setting (told_by self.now) ends }
+    {
+        Context {
+            checker: Checker {
+                signature: self.signature(),
+                variables: self.variables(),
+                ends,
+            },
+            places: self.places.as_slice(),
+            kind: self.last_kind(),
+        }
+    }
+
+    // The sorts of the newest transition's variables.
+    fn variables(&self) -> &[u8]
+        ensures { result.now ≡ (newest (told_by self.now).transitions no_transition).sorts }
+    {
+        self.transitions.last().map_or(&[], |t| t.sorts.as_slice())
+    }
+
+    // The kind of the newest claim.
+    fn last_kind(&self) -> Kind
+        ensures { result ≡ (newest (told_by self.now).claims no_claim).kind }
+    {
+        self.claims.last().map_or(Kind::Equal, |c| c.kind)
+    }
+
+    fn add_operation(
+        &mut self,
+        arguments: Arguments,
+        res: u8,
+        table: &[u8],
+    ) -> Result<(), AllocError>
+        ensures { OnOk result (told_by self.new ≡ add (told_by self.old) (operation (arity arguments) (first arguments) (second arguments) res table.now)) }
+    {
+        let heap = *self.operations.allocator();
+        self.operations.push(Operation {
+            arguments,
+            result: res,
+            table: table.to_vec(heap)?,
+        })?;
+        Ok(())
+    }
+
+    fn add_bag_operation(&mut self, argument: u8, res: u8, table: &[u8]) -> Result<(), AllocError>
+        ensures { OnOk result (told_by self.new ≡ add (told_by self.old) (bag_operation argument res table.now)) }
+    {
+        let heap = *self.bags.allocator();
+        self.bags.push(BagOperation {
+            argument,
+            result: res,
+            table: table.to_vec(heap)?,
+        })?;
+        Ok(())
+    }
+
+    fn add_transition(&mut self, sorts: &[u8]) -> Result<(), AllocError>
+        ensures { OnOk result (told_by self.new ≡ add (told_by self.old) (transition sorts.now)) }
+    {
+        let heap = *self.transitions.allocator();
+        self.transitions.push(Transition {
+            sorts: sorts.to_vec(heap)?,
+            sizes: variable_sizes(self.sizes.as_slice(), sorts),
+            guard: None,
+            takes: Vec::new(heap),
+            puts: Vec::new(heap),
+        })?;
+        Ok(())
+    }
+
+    // Gives the newest transition a guard.
+    fn add_guard(&mut self, term: &[u8]) -> Result<(), AllocError>
+        ensures { OnOk result (told_by self.new ≡ add (told_by self.old) (guard term.now)) }
+    {
+        let term = term.to_vec(*self.transitions.allocator())?;
+        if let Some(t) = self.transitions.last_mut() {
+            t.set_guard(term);
+        }
+        Ok(())
+    }
+
+    // Gives the newest transition an arc.
+    fn add_arc(&mut self, direction: Direction, place: u8, bag: &[u8]) -> Result<(), AllocError>
+        ensures { OnOk result (told_by self.new ≡ add (told_by self.old) (arc direction place bag.now)) }
+    {
+        let arc = Arc {
+            place,
+            bag: bag.to_vec(*self.transitions.allocator())?,
+        };
+        let Some(t) = self.transitions.last_mut() else {
+            return Ok(());
+        };
+        t.add(direction, arc)
+    }
+
+    fn add_claim(&mut self, kind: Kind) -> Result<(), AllocError>
+        ensures { OnOk result (told_by self.new ≡ add (told_by self.old) (claim (kind_number kind) (kind_modulus kind))) }
+    {
+        self.claims.push(Claim::new(kind))?;
+        Ok(())
+    }
+
+    // Gives one cell of the newest claim a code.
+    fn set_code(&mut self, place: u8, element: u8, code: i32)
+        ensures { told_by self.new ≡ add (told_by self.old) (element_weight place element code) }
+    {
+        if let Some(claim) = self.claims.last_mut() {
+            claim.set(cell(place, element), code);
+        }
+    }
+
+    // Gives all elements of a place a code in the newest claim.
+    fn set_codes(&mut self, place: u8, code: i32)
+        ensures { told_by self.new ≡ add (told_by self.old) (place_weight place code) }
+    {
+        for element in 0..self.elements(place) {
+            self.set_code(place, element, code);
+        }
+    }
+
+    fn set_tokens(&mut self, place: u8, element: u8, count: u16)
+        ensures { told_by self.new ≡ add (told_by self.old) (tokens place element count) }
+    {
+        let at = cell(place, element);
+        if at < CELLS {
+            self.initial[at] = count;
+        }
+    }
+
+    // Carries out a command that was read.
+    pub(crate) fn carry_out(&mut self, command: Command) -> Result<(), AllocError>
+        ensures { OnOk result (told_by self.new ≡ add (told_by self.old) (said_of command.entry)) }
+    {
+        match command {
+            Command::Sort { size } => self.sizes.push(size)?,
+            Command::Operation {
+                arguments,
+                result,
+                table,
+            } => { self.add_operation(arguments, result, table)? }
+            Command::BagOperation {
+                argument,
+                result,
+                table,
+            } => { self.add_bag_operation(argument, result, table)? }
+            Command::Place { sort } => self.places.push(sort)?,
+            Command::Tokens {
+                place,
+                element,
+                count,
+            } => self.set_tokens(place, element, count),
+            Command::Transition { sorts } => self.add_transition(sorts)?,
+            Command::Guard { term } => self.add_guard(term)?,
+            Command::Arc {
+                direction,
+                place,
+                bag,
+            } => self.add_arc(direction, place, bag)?,
+            Command::Claim { kind } => self.add_claim(kind)?,
+            Command::PlaceWeight { place, code } => self.set_codes(place, code),
+            Command::ElementWeight {
+                place,
+                element,
+                code,
+            } => self.set_code(place, element, code),
+            Command::End => {}
+        }
+        Ok(())
+    }
+}

@@ -1,0 +1,3 @@
+pub mod Small
+pub mod Rows
+pub mod Table
