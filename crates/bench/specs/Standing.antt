@@ -13,8 +13,7 @@ use Rattle.bench.specs.declared.counts.Counts.{Counts}
 abbrev pub lent_of : Bench → Lent
 lent_of b = lent b.counts.now b.trail.now
 
--- the bench has the counts and the trail that are lent, and these their memory, so that each lender gets back what was
--- written there
+-- the bench works on the counts and the trail that are lent, and these on the memory lent to them, and not on copies
 pub record HasLoans (k : MutBor Counts) (l : MutBor (LentList Firing)) (b : Bench) : Type 0 where
   pub counts : b.counts.ghost_name ≡ k.ghost_name
   pub trail : b.trail.ghost_name ≡ l.ghost_name

@@ -23,7 +23,7 @@ By d n claim m k (Ok (Ok c)) = Called d n claim m k (Ok (Ok c))
 By {V} d n claim m k (Ok (Err f)) = (v : V) × ((w : V) × Called d n claim m k (Ok (Err (record { firing = f; before = v; after = w }))))
 By d n claim m k (Err e) = Called d n claim m k (Err e)
 
--- the domain of each kind
+-- what judging by kind answers: what judging under the domain of the kind does
 abbrev pub ByKind : Kind → SystemNet → ℕ → Memory → Memory → Result Outcome Fault → Type 0
 ByKind kind.Equal n claim m k r = By equal n claim m k r
 ByKind kind.NeverRises n claim m k r = By never_rises n claim m k r

@@ -1,4 +1,4 @@
--- What holds of every net that a file tells: its terms are of their sorts, and its numbers are in their ranges.
+-- What holds of every net, of what a file tells and of the empty one: its terms are of their sorts, and its numbers are in their ranges.
 use Rattle.std.specs.Prelude.{◌≡◌, ℕ, ◌+◌, ◌*◌, ◌^◌, ◌<◌, ◌≤◌, true, List, length, pos, Some, None, Option, slice_index, slice_index_or, sum_by}
 use Rattle.std.specs.List.{All}
 use Rattle.std.specs.Option.{option_map_or}

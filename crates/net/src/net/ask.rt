@@ -1,10 +1,10 @@
 // What judging and firing ask of a net.
-ghost use Rattle.std.specs.Prelude.{◌≡◌, ◌≢◌, ◌/◌, ◌<◌, ◌≤◌, length, map, MatchOption};
+ghost use Rattle.std.specs.Prelude.{◌≡◌, ◌≢◌, ℕ, ◌/◌, ◌<◌, ◌≤◌, length, map, MatchOption};
 ghost use Rattle.term.specs.Meaning.{of};
 ghost use Rattle.term.specs.Worth.{value_of};
 ghost use Rattle.domain.specs.Meaning.{Tells};
 ghost use Rattle.format.specs.Format.{mode_count};
-ghost use Rattle.net.specs.Nets.{ExactlyTallied, HasCell, IsKind, Mode, Tallied, arcs_of, codes_of, digit, given, guard_holds, mode_of, side, taken, transition};
+ghost use Rattle.net.specs.Nets.{ExactlyTallied, HasCell, IsKind, Mode, Tallied, arcs_of, codes_of, digit, given, guard_holds, largest_side, mode_of, side, taken, transition};
 ghost use Rattle.net.specs.Of.{system};
 ghost use Rattle.net.specs.Spans.{arc_told};
 
@@ -155,6 +155,7 @@ impl Net {
     pub fn count(&self, f: Firing, direction: Direction, counts: &mut [u32])
         ensures held { Tallied counts.old counts.new (side (system self.now) f.mode (arcs_of (system self.now) f.transition direction)) }
         ensures exact { ExactlyTallied counts.old counts.new (side (system self.now) f.mode (arcs_of (system self.now) f.transition direction)) }
+        ensures few { (c : ℕ) → side (system self.now) f.mode (arcs_of (system self.now) f.transition direction) c ≤ largest_side }
     {
         let evaluator = self.evaluator(&f.mode);
         for arc in self.arcs_of(f.transition, direction) {

@@ -3,7 +3,7 @@ use Rattle.term.specs.Meaning.{count}
 use Rattle.net.specs.Nets.{Tallied, bag_of, side}
 use Rattle.net.specs.Of.{system}
 use Rattle.net.specs.Spans.{Arc, arc_told}
-use Rattle.net.proofs.Every.{counted}
+use Rattle.net.proofs.Every.{counted, few_tokens}
 use Rattle.net.proofs.Sides.{side_more}
 use Rattle.net.proofs.Tallied.{alike, more}
 use Rattle.net.proofs.net.Net.count.Goals as goal
@@ -28,3 +28,6 @@ returns-clause-exact c =
     let items = c.arcs_of-arc-items.result.now in
     let all = ap (map arc_told) (take_all c.loop-arc.arc-index items (omega (arith, c.loop-arc-test.false))) ∙ c.arcs_of-arc-items.ensures in
     counted c.args.self.now m t d c.args.counts.now c.loop-arc.counts (subst (λ (xs : List Arc). Tallied c.args.counts.now c.loop-arc.counts (side n m xs)) all c.loop-arc.invariant)
+
+pub returns-clause-few : goal.returns-clause-few
+returns-clause-few c = λ k. few_tokens c.args.self.now c.args.f.mode c.args.f.transition k c.args.direction
