@@ -1,4 +1,5 @@
 // Fires, backs and restarts on a bench.
+use crate::calls::{Call, make};
 use bench::{Bench, Counts, Firing, measure};
 use cases::nets::{MANY, SMALL, TWICE, joined, net_of, repeated};
 use domain::Equal;
@@ -9,27 +10,7 @@ use std::process::Abort;
 use std::test::Fail;
 use term::Fault;
 
-// A call of a bench.
-#[derive(Clone, Copy)]
-enum Call {
-    Fire(usize, [u8; 4]),
-    Back,
-    Restart,
-}
-
 use Call::{Back, Fire, Restart};
-
-// Makes a call.
-fn make(bench: &mut Bench, call: Call) -> Result<(), Fault> {
-    match call {
-        Fire(transition, mode) => bench.fire(Firing { transition, mode }),
-        Back => bench.back(),
-        Restart => {
-            bench.restart();
-            Ok(())
-        }
-    }
-}
 
 // A call, its answer, and how many tokens one cell then has.
 type Step = (Call, Result<(), Fault>, usize, u16);

@@ -1,5 +1,6 @@
 // Examples of calls on a bench, with their exact answers.
 #![tactic(auto)]
 
+pub mod calls;
 #[cfg(test)]
 mod firing;

@@ -1,26 +1,15 @@
 // Verdicts and caps under a domain that the caller gives, one of the caller's own among them.
+use crate::broken::broken;
 use cases::nets::{MANY, TWICE, changed, joined, net_of, repeated};
 use cases_judging::memory::{Cap, Lent, cap_of, marked};
 use domain::{Equal, Measuring, NeverRises, Siphon, Turned, WeightDomain};
 use domain_tests::{Greatest, Height};
-use judge::{Breach, Verdict};
-use net::{Firing, Net};
+use judge::Verdict;
+use net::Net;
 use std::fmt::Debug;
 use std::process::Abort;
 use std::test::Fail;
 use term::Fault;
-
-// That a claim breaks at a transition, in its first mode, with both values.
-fn broken<V>(transition: usize, before: V, after: V) -> Verdict<V> {
-    Err(Breach {
-        firing: Firing {
-            transition,
-            mode: [0; 4],
-        },
-        before,
-        after,
-    })
-}
 
 // Checks the verdict of claim 0 under a domain.
 fn check_verdict<D: WeightDomain>(

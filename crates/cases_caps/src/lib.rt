@@ -1,6 +1,7 @@
 // Examples of caps, and of verdicts under a domain that the caller gives, with their exact answers.
 #![tactic(auto)]
 
+pub mod broken;
 #[cfg(test)]
 mod caps;
 #[cfg(test)]

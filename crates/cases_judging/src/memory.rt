@@ -1,4 +1,7 @@
 // Memory that the examples lend, and what they ask of it.
+ghost use Rattle.std.specs.Prelude.{◌≡◌, Ok, Err};
+ghost use Rattle.term.specs.Faults.{number_of};
+
 use judge::Judge;
 use net::{CELLS, Net};
 use term::Fault;
@@ -43,6 +46,11 @@ pub fn marked(counts: &[u32]) -> usize {
 // A cap: a number, none for unbounded, or the number of a fault.
 pub type Cap = Result<Option<u64>, u8>;
 
-pub fn cap_of(most: Result<Option<u64>, Fault>) -> Cap {
-    most.map_err(|fault| fault.number())
+pub fn cap_of(most: Result<Option<u64>, Fault>) -> Cap
+    ensures { elim most [ Ok k ↦ result ≡ Ok k | Err e ↦ result ≡ Err (number_of e) ] }
+{
+    match most {
+        Ok(cap) => Ok(cap),
+        Err(fault) => Err(fault.number()),
+    }
 }

@@ -1,4 +1,5 @@
 // Replays of traces.
+use crate::ends::{Ended, ended};
 use bench::Firing;
 use cases::nets::{SMALL, joined, net_of, repeated};
 use lent::list::LentList;
@@ -7,7 +8,7 @@ use std::alloc::Global;
 use std::process::Abort;
 use std::test::Fail;
 use term::Fault;
-use trace::{Replayed, replay};
+use trace::replay;
 
 // Memory of a trail, before anything fires.
 const BLANK: Firing = Firing {
@@ -15,19 +16,9 @@ const BLANK: Firing = Firing {
     mode: [0; 4],
 };
 
-// How many commands were carried out, and the number and the place of the fault, both 0 where the replay is done.
-type Ended = (u32, u8, usize);
-
 // What a replay leaves: how it ends, how many firings are then on the trail, and how many tokens the cells 0, 1, 64
 // and 128 then have.
 pub type Left = (Ended, usize, [u16; 4]);
-
-fn ended(replayed: Replayed) -> Ended {
-    let (number, place) = replayed
-        .stop
-        .map_or((0, 0), |stop| (stop.fault.number(), stop.place));
-    (replayed.carried, number, place)
-}
 
 // Checks a replay on a trail with room for 8,192 firings.
 pub fn check_replay(
