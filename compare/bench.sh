@@ -2,19 +2,7 @@
 # bench.sh PROGRAM
 # Runs PROGRAM and relayref on four large cases, three times each in turn, and
 # prints the least user time and the largest peak memory of each.
-set -eu
-
-if [ $# -ne 1 ]; then
-    echo "usage: bench.sh PROGRAM" >&2
-    exit 2
-fi
-program=$(readlink -f "$1")
-here=$(cd "$(dirname "$0")" && pwd)
-work=$(mktemp -d "${TMPDIR:-/tmp}/compare.XXXXXX")
-target=${CARGO_TARGET_DIR:-$work/target}
-trap 'rm -rf "$work"' EXIT
-
-cargo build --quiet --release --offline --manifest-path "$here/Cargo.toml" --target-dir "$target"
+. "$(dirname "$0")/setup.sh"
 reference=$(readlink -f "$target/release/relayref")
 "$target/release/relaygen" --bench "$work/cases"
 

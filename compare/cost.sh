@@ -5,19 +5,7 @@
 # with the length of a file that is read, and with the commands of a trace.
 # Prints for each case its numbers and the user time of one run, in
 # milliseconds, as the best of three.
-set -eu
-
-if [ $# -ne 1 ]; then
-    echo "usage: cost.sh PROGRAM" >&2
-    exit 2
-fi
-program=$(readlink -f "$1")
-here=$(cd "$(dirname "$0")" && pwd)
-work=$(mktemp -d "${TMPDIR:-/tmp}/compare.XXXXXX")
-target=${CARGO_TARGET_DIR:-$work/target}
-trap 'rm -rf "$work"' EXIT
-
-cargo build --quiet --release --offline --manifest-path "$here/Cargo.toml" --target-dir "$target"
+. "$(dirname "$0")/setup.sh"
 "$target/release/relaygen" --cost "$work/cases" >"$work/list"
 
 # spent RUNS: prints the user time of so many runs in the current folder, in

@@ -1,5 +1,6 @@
 // Fires, backs and restarts on a bench.
 use crate::calls::{Call, make};
+use Call::{Back, Fire, Restart};
 use bench::{Bench, Counts, Firing, measure};
 use cases::nets::{MANY, SMALL, TWICE, joined, net_of, repeated};
 use domain::Equal;
@@ -9,8 +10,6 @@ use net::{CELLS, Net};
 use std::process::Abort;
 use std::test::Fail;
 use term::Fault;
-
-use Call::{Back, Fire, Restart};
 
 // A call, its answer, and how many tokens one cell then has.
 type Step = (Call, Result<(), Fault>, usize, u16);
