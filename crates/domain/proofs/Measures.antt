@@ -4,8 +4,9 @@ use Rattle.std.proofs.lemmas.Int.{ints}
 use Rattle.domain.specs.Meaning.{copies}
 use Rattle.domain.specs.Domains.{siphon, whole}
 use Rattle.domain.specs.Measure.{Largest, Reaches, whole_largest, truth_largest}
-use Rattle.domain.specs.Truths.{copies_false, copies_truth}
-use Rattle.domain.specs.Wholes.{WholeOrder, copies_whole}
+use Rattle.domain.proofs.Truths.{copies_false, copies_truth}
+use Rattle.domain.specs.Wholes.{WholeOrder}
+use Rattle.domain.proofs.Wholes.{copies_whole}
 
 module _ {rel : ℤ → ℤ → Type 0} (o : WholeOrder rel) where
   reaches : (a b n : ℕ) → n * b ≤ a → Reaches (whole rel) (λ v. pos 0 ≤ℤ v) (pos a) (pos b) n

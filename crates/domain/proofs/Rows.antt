@@ -4,9 +4,11 @@ use native.Mathlib.Nat.{add-mod-mod, mod-add-mod}
 use Rattle.domain.specs.Domains.{equal, modulo, residue_weight, siphon, truth_weight, whole_weight}
 use Rattle.domain.specs.Meaning.{Added, Laws, Meaning, copies, largest_sum, largest_weight, places, row_of, row_to}
 use Rattle.domain.proofs.Copies.{copies_holds, copies_size}
-use Rattle.domain.specs.Residues.{added}
-use Rattle.domain.specs.Truths.{assoc, copies_truth}
-use Rattle.domain.specs.Wholes.{equal_laws, product_fits, size_weight, sum_fits, sum_is}
+use Rattle.domain.proofs.Residues.{added}
+use Rattle.domain.specs.Truths.{assoc}
+use Rattle.domain.proofs.Truths.{copies_truth}
+use Rattle.domain.specs.Wholes.{size_weight}
+use Rattle.domain.proofs.Wholes.{equal_laws, product_fits, sum_fits, sum_is}
 
 -- one place more
 pub row_next : {V : Type 0} (d : Meaning V) (counts : List ℕ) (codes : List ℤ) (k : ℕ) → row_to d counts codes (k + 1) ≡ d.plus (row_to d counts codes k) (copies d (get_or counts k 0) (d.weight (get_or codes k (pos 0))))

@@ -59,7 +59,7 @@ impl WeightDomain for Modulo {
     }
 
     // The sum fits 64 bits before it is reduced.
-    #[tactic(auto, using(crate::specs::Residues::added))]
+    #[tactic(auto, using(crate::proofs::Residues::added))]
     fn add_copies(&self, v: &u32, n: u32, w: &u32) -> u32 {
         self.reduce(u64::from(*v) + u64::from(n) * u64::from(*w))
     }
