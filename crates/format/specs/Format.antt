@@ -7,12 +7,12 @@ use Rattle.std.proofs.Common.{to_z}
 use Rattle.std.specs.Borrow.{Bor}
 use Rattle.domain.specs.Kinds.{kind_weighs}
 use Rattle.domain.specs.declared.kind.Kind.{Kind}
-use Rattle.term.specs.Check.{Checked, done, bad, check_bag, check_term}
+use Rattle.term.specs.Check.{Checked, done, bad, check_bag, check_term, spot}
 use Rattle.term.specs.declared.fault.Fault.{Fault}
 use Rattle.term.specs.declared.fault.Fault.TheVariants as fail
 use Rattle.term.specs.declared.fault.FileFault.{FileFault}
 use Rattle.term.specs.declared.fault.Stage.TheVariants as stage
-use Rattle.term.specs.Meaning.{Sig, of}
+use Rattle.term.specs.Meaning.{Sig, of, size_of}
 use Rattle.term.specs.declared.signature.Arguments.{Arguments}
 use Rattle.term.specs.declared.signature.Arguments.TheVariants as arguments
 use Rattle.format.specs.Commands.{Said, Read, arguments_of, said, fault, sort, operation, bag_operation, place, tokens, transition, guard, arc, claim, place_weight, element_weight, end}
@@ -26,10 +26,6 @@ use Rattle.format.specs.declared.operands.Context.{Context}
 abbrev pub in_command : Fault → ℕ → FileFault
 in_command f p = record { fault = f; place = p; stage = stage.Command }
 
--- where the byte k of what is left stands in the file
-abbrev pub spot : List ℕ → ℕ → ℕ → ℕ
-spot bs ends k = ends - length bs + k
-
 -- the byte i of what is left, or the fault that the file ends
 abbrev pub byte : List ℕ → ℕ → ℕ → (ℕ → Read) → Read
 byte bs ends i k = cond (nat_lt i (length bs)) (k (slice_index bs i)) (fault (in_command fail.Ends ends))
@@ -37,10 +33,6 @@ byte bs ends i k = cond (nat_lt i (length bs)) (k (slice_index bs i)) (fault (in
 -- a check at the byte that stands at p: the fault f unless ok
 abbrev pub check : Bool → Fault → ℕ → Read → Read
 check ok f p r = cond ok r (fault (in_command f p))
-
--- the size of a sort, 0 where it is not declared
-abbrev pub size_of : List ℕ → ℕ → ℕ
-size_of sizes s = slice_index sizes s
 
 -- the size of a place's sort, 0 where there is no such place
 abbrev pub place_size : List ℕ → List ℕ → ℕ → ℕ
@@ -156,13 +148,17 @@ abbrev pub with_term : Checked → List ℕ → (List ℕ → Said) → Read
 with_term (done r) bs k = said (k (front_of bs r)) r
 with_term (bad e) bs k = fault e
 
--- a guard's term: of sort 0, at most 16 deep
-unfoldable pub guard_term : Sig → List ℕ → ℕ → List ℕ → Checked
-guard_term s vars ends bs = check_term s vars ends 16 0 bs
+-- the deepest that a term or a bag may be
+abbrev pub depth : ℕ
+depth = 16
 
--- an arc's bag: over the sort of the place, at most 16 deep
+-- a guard's term: of sort 0
+unfoldable pub guard_term : Sig → List ℕ → ℕ → List ℕ → Checked
+guard_term s vars ends bs = check_term s vars ends depth 0 bs
+
+-- an arc's bag: over the sort of the place
 unfoldable pub arc_bag : Sig → List ℕ → ℕ → ℕ → List ℕ → Checked
-arc_bag s vars ends want bs = check_bag s vars ends 16 want bs
+arc_bag s vars ends want bs = check_bag s vars ends depth want bs
 
 -- a guard: a term
 abbrev pub guard_at : Sig → List ℕ → List ℕ → ℕ → Read

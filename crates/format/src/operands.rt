@@ -1,8 +1,9 @@
 // The operands of each command, taken apart by slice patterns. Each is checked at its own byte.
 ghost use Rattle.std.specs.Prelude.{◌≡◌, ◌<◌, ◌≤◌, length, nat_le, IfSome, IfOk};
-ghost use Rattle.term.specs.Meaning.{of};
+ghost use Rattle.term.specs.Meaning.{of, size_of};
 ghost use Rattle.format.specs.Commands.{arguments_of, fault, seen};
-ghost use Rattle.format.specs.Format.{arc_at, bag_operation_at, claim_at, combinations, counts_at, element_weight_at, end_at, first_bad, fitting, front_of, guard_at, in_command, mode_count, operation_at, parse_at, parts_of, place_at, place_size, place_weight_at, setting_of, size_of, sort_at, spot, table_at, tokens_at, transition_at, variable_sizes};
+ghost use Rattle.format.specs.Format.{arc_at, bag_operation_at, claim_at, combinations, counts_at, element_weight_at, end_at, first_bad, fitting, front_of, guard_at, in_command, mode_count, operation_at, parse_at, parts_of, place_at, place_size, place_weight_at, setting_of, sort_at, table_at, tokens_at, transition_at, variable_sizes};
+ghost use Rattle.term.specs.Check.{spot};
 ghost use Rattle.format.specs.Reads.{Reads};
 
 use crate::command::{Code, Command, Direction};

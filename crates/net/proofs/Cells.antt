@@ -7,7 +7,8 @@ use Rattle.std.proofs.lemmas.Bool.{both_ways, cases_eq, cases_lt, cond_both, con
 use Rattle.domain.specs.Kinds.{kind_weighs}
 use Rattle.domain.specs.declared.kind.Kind.{Kind}
 use Rattle.domain.specs.declared.kind.Kind.TheVariants.{Equal, NeverRises, NeverFalls, Modulo, Trap, Siphon}
-use Rattle.format.specs.Format.{place_size, size_of}
+use Rattle.format.specs.Format.{place_size}
+use Rattle.term.specs.Meaning.{size_of}
 use Rattle.net.specs.Reading.{put_row}
 use Rattle.net.proofs.Anywhere.{anywhere}
 

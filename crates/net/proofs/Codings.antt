@@ -6,7 +6,8 @@ use Rattle.std.proofs.lemmas.List.Elements.{All-push, All-replicate, All-set}
 use Rattle.std.proofs.lemmas.Bool.{both_ways}
 use Rattle.domain.specs.Kinds.{kind_weighs}
 use Rattle.domain.specs.declared.kind.Kind.{Kind}
-use Rattle.format.specs.Format.{place_size, size_of}
+use Rattle.format.specs.Format.{place_size}
+use Rattle.term.specs.Meaning.{size_of}
 use Rattle.net.specs.declared.parts.Claim.{Claim}
 use Rattle.net.specs.Nets.{no_claim}
 use Rattle.net.specs.Reading.{coded, newest, put_row, renew, unweighted}

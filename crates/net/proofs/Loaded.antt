@@ -7,7 +7,8 @@ use Rattle.term.specs.Worth.{Marking, Weighs, most, value_of}
 use Rattle.term.proofs.Loads.{few_tokens}
 use Rattle.term.proofs.Sums.{value_holds}
 use Rattle.net.specs.declared.net.Net.{Net}
-use Rattle.net.specs.Nets.{arcs_of, bag_of, depth}
+use Rattle.net.specs.Nets.{arcs_of, bag_of}
+use Rattle.format.specs.Format.{depth}
 use Rattle.net.specs.Of.{system}
 use Rattle.net.specs.Spans.{Arc, span, spans}
 use Rattle.net.specs.System.{SystemNet}

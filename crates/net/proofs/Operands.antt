@@ -7,12 +7,12 @@ use Rattle.std.proofs.lemmas.Bool.{and_parts, cond_both}
 use Rattle.std.proofs.lemmas.Option.{none-some}
 use Rattle.domain.specs.Kinds.{kind_weighs}
 use Rattle.term.specs.Check.{Checked, bad, done}
-use Rattle.term.specs.Meaning.{Sig, bag_sorted, sorted}
+use Rattle.term.specs.Meaning.{Sig, bag_sorted, size_of, sorted}
 use Rattle.term.specs.Prefix.{Read, ReadBag, bag_at, term_at}
 use Rattle.term.specs.declared.fault.FileFault.{FileFault}
 use Rattle.format.specs.Commands.{Said, arc, arguments_of, bag_operation, claim, element_weight, end, fault, guard, operation, place, place_weight, said, sort, tokens, transition}
 use Rattle.format.specs.Commands as commands
-use Rattle.format.specs.Format.{Setting, arc_at, arc_bag, both, combinations, counts_at, first_bad, fitting, front_of, guard_term, mode_count, modulus_fits, neither, parse_at, place_size, signed, size_of, unless_bad, variable_sizes, with_table, with_term}
+use Rattle.format.specs.Format.{Setting, arc_at, arc_bag, both, combinations, counts_at, first_bad, fitting, front_of, guard_term, mode_count, modulus_fits, neither, parse_at, place_size, signed, unless_bad, variable_sizes, with_table, with_term}
 use Rattle.format.specs.declared.command.Code.{Code}
 use Rattle.format.specs.declared.command.Code.TheVariants as code
 use Rattle.format.specs.declared.command.Direction.{Direction}

@@ -3,10 +3,10 @@ use Rattle.std.proofs.Common.{◌≡◌, ℕ, zero, suc, ◌-◌, ◌*◌, ◌/�
 use Rattle.std.specs.List.{All}
 use Rattle.std.proofs.lemmas.List.Sums.{sum_by-le}
 use Rattle.std.proofs.lemmas.Bool.{cases_lt, cond_both, cond-true}
-use Rattle.format.specs.Format.{place_size, size_of, variable_size, variable_sizes}
+use Rattle.format.specs.Format.{depth, place_size, variable_size, variable_sizes}
 use Rattle.format.specs.declared.command.Direction.{Direction}
-use Rattle.term.specs.Meaning.{size}
-use Rattle.net.specs.Nets.{HasCell, Mode, arcs_of, depth, part, side, transition}
+use Rattle.term.specs.Meaning.{size, size_of}
+use Rattle.net.specs.Nets.{HasCell, Mode, arcs_of, part, side, transition}
 use Rattle.net.specs.Sound.{Sound, SoundArc, SoundTransition}
 use Rattle.net.specs.Spans.{Arc}
 use Rattle.net.specs.System.{SystemNet, Transition, no_transition}

@@ -4,8 +4,7 @@ use Rattle.std.specs.List.{All}
 use Rattle.std.proofs.lemmas.List.{get_or_append_left, get_or_past, length_push}
 use Rattle.std.proofs.lemmas.List.Elements.{All-push}
 use Rattle.std.proofs.lemmas.Bool.{cases_lt}
-use Rattle.term.specs.Meaning.{BagOperation, Operation, Sig}
-use Rattle.format.specs.Format.{size_of}
+use Rattle.term.specs.Meaning.{BagOperation, Operation, Sig, size_of}
 use Rattle.net.specs.Sound.{SoundBagOperation, SoundOperation}
 use Rattle.net.proofs.Anywhere.{anywhere}
 

@@ -4,17 +4,13 @@ use Rattle.std.specs.Option.{option_map_or}
 use Rattle.domain.specs.declared.kind.Kind.{Kind}
 use Rattle.domain.specs.declared.kind.Kind.TheVariants.{Equal}
 use Rattle.format.specs.declared.command.Direction.{Direction}
-use Rattle.format.specs.Format.{place_size}
+use Rattle.format.specs.Format.{depth, place_size}
 use Rattle.term.specs.Meaning.{Bag, count, value}
 use Rattle.term.specs.Prefix.{bag_at, term_at}
 use Rattle.term.specs.Worth.{Marking, on_place}
 use Rattle.net.specs.declared.parts.Claim.{Claim}
 use Rattle.net.specs.Spans.{Arc, towards}
 use Rattle.net.specs.System.{SystemNet, Transition, no_transition}
-
--- the deepest that a term or a bag may be
-abbrev pub depth : ℕ
-depth = 16
 
 abbrev pub transition : SystemNet → ℕ → Transition
 transition n t = slice_index_or n.transitions t no_transition

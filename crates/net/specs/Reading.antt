@@ -7,7 +7,8 @@ use Rattle.term.specs.declared.fault.FileFault.{FileFault}
 use Rattle.term.specs.declared.fault.Stage.TheVariants as stage
 use Rattle.format.specs.Codes.{code_of}
 use Rattle.format.specs.Commands.{Read, Said, arc, arguments_of, bag_operation, claim, element_weight, end, fault, guard, operation, place, place_weight, said, sort, tokens, transition}
-use Rattle.format.specs.Format.{Setting, in_command, parse_at, place_size, spot, variable_sizes}
+use Rattle.format.specs.Format.{Setting, in_command, parse_at, place_size, variable_sizes}
+use Rattle.term.specs.Check.{spot}
 use Rattle.format.specs.Order.{enters}
 use Rattle.format.specs.declared.command.Code.{Code}
 use Rattle.format.specs.declared.command.Code.TheVariants as code

@@ -3,13 +3,13 @@ use Rattle.std.specs.Prelude.{◌≡◌, ℕ, ◌+◌, ◌*◌, ◌^◌, ◌<◌
 use Rattle.std.specs.List.{All}
 use Rattle.std.specs.Option.{option_map_or}
 use Rattle.domain.specs.Kinds.{kind_weighs}
-use Rattle.format.specs.Format.{combinations, mode_count, size_of, variable_sizes}
+use Rattle.format.specs.Format.{combinations, depth, mode_count, variable_sizes}
 use Rattle.term.specs.declared.signature.Arguments.{Arguments}
 use Rattle.term.specs.declared.signature.Arguments.TheVariants as arguments
-use Rattle.term.specs.Meaning.{BagOperation, Operation, Sig, bag_sorted, sorted}
+use Rattle.term.specs.Meaning.{BagOperation, Operation, Sig, bag_sorted, size_of, sorted}
 use Rattle.term.specs.Prefix.{bag_at, term_at}
 use Rattle.net.specs.declared.parts.Claim.{Claim}
-use Rattle.net.specs.Nets.{HasCell, depth}
+use Rattle.net.specs.Nets.{HasCell}
 use Rattle.net.specs.Reading.{arc_count}
 use Rattle.net.specs.Spans.{Arc, spans}
 use Rattle.net.specs.System.{SystemNet, Transition}

@@ -66,8 +66,11 @@ abbrev pub bag_operation : Sig → ℕ → BagOperation
 bag_operation s k = slice_index_or s.bags k no_bag
 
 -- how many elements a sort has, 0 where it is not declared
+abbrev pub size_of : List ℕ → ℕ → ℕ
+size_of sizes sort = slice_index sizes sort
+
 abbrev pub size : Sig → ℕ → ℕ
-size s sort = slice_index s.sizes sort
+size s = size_of s.sizes
 
 -- how many results stand together for one first argument
 abbrev pub width : Sig → Arguments → ℕ
