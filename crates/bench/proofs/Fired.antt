@@ -9,10 +9,10 @@ use Rattle.term.specs.Worth.{Marking}
 use Rattle.term.specs.declared.fault.Fault.{Fault}
 use Rattle.term.specs.declared.fault.Fault.TheVariants as fault
 use Rattle.net.specs.declared.firing.Firing.{Firing}
-use Rattle.net.specs.System.{SystemNet}
+use Rattle.net.specs.System.{SystemNet, cells}
 use Rattle.net.specs.Nets.{HasCell, given, taken}
 use Rattle.net.specs.Of.{system}
-use Rattle.net.specs.Runs.{Bounded, Counted, Fires, cells}
+use Rattle.net.specs.Runs.{Bounded, Counted, Fires}
 use Rattle.net.specs.declared.net.Net.{Net}
 use Rattle.net.proofs.Every.{untouched}
 use Rattle.bench.specs.Calls.{Checked, FireCalled, FireRefused, Lacking, Lent, Lowest, Nowhere, Open, Passing, Roomy, lent, marking}

@@ -6,9 +6,9 @@ use Rattle.term.specs.Worth.{Marking}
 use Rattle.term.specs.declared.fault.Fault.{Fault}
 use Rattle.term.specs.declared.fault.Fault.TheVariants as fault
 use Rattle.net.specs.declared.firing.Firing.{Firing}
-use Rattle.net.specs.System.{SystemNet}
+use Rattle.net.specs.System.{SystemNet, cells}
 use Rattle.net.specs.Nets.{HasCell, Mode, given, guard_holds, taken, transition}
-use Rattle.net.specs.Runs.{Fires, cells, initial}
+use Rattle.net.specs.Runs.{Fires, initial}
 use Rattle.bench.specs.Counted.{changed, tokens}
 use Rattle.bench.specs.declared.change.Change.{Change}
 use Rattle.bench.specs.declared.counts.Counts.{Counts}

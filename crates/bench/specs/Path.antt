@@ -6,8 +6,8 @@ use Rattle.term.specs.declared.fault.Fault.{Fault}
 use Rattle.term.specs.declared.fault.Fault.TheVariants.{Full}
 use Rattle.net.specs.declared.firing.Firing.{Firing}
 use Rattle.net.specs.Nets.{HasCell}
-use Rattle.net.specs.System.{SystemNet}
-use Rattle.net.specs.Runs.{Bounded, Fires, cells, initial}
+use Rattle.net.specs.System.{SystemNet, cells}
+use Rattle.net.specs.Runs.{Bounded, Fires, initial}
 
 -- no cell holds more than 65,535
 abbrev pub Small : Marking → Type 0

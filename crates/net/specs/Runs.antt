@@ -2,11 +2,7 @@
 use Rattle.std.specs.Prelude.{◌≡◌, ℕ, ◌+◌, ◌-◌, ◌<◌, ◌≤◌, true, List, [], ◌∷◌, length, slice_index}
 use Rattle.term.specs.Worth.{Marking}
 use Rattle.net.specs.Nets.{Mode, given, guard_holds, taken, transition}
-use Rattle.net.specs.System.{SystemNet}
-
--- the number of cells
-abbrev pub cells : ℕ
-cells = 1024
+use Rattle.net.specs.System.{SystemNet, cells}
 
 -- counts in memory are those of a marking
 abbrev pub Counted : List ℕ → Marking → Type 0

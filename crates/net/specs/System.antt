@@ -6,6 +6,10 @@ use Rattle.net.specs.declared.parts.Claim.{Claim}
 use Rattle.net.specs.declared.parts.Parts.{Parts}
 use Rattle.net.specs.declared.parts.Transition as parts
 
+-- the number of cells: 16 places of at most 64 elements
+abbrev pub cells : ℕ
+cells = 1024
+
 -- a transition: the sorts of its variables, how many elements each of four has (1 for an unused one), the bytes of its
 -- guard, and the arcs by which it takes and puts
 pub record Transition : Type 0 where
