@@ -14,7 +14,7 @@ use term::{Arguments, Checker, Fault, FileFault, Stage};
 pub const DEPTH: u8 = 16;
 
 // The most modes that a transition may have.
-pub const MODES: u32 = 65536;
+const MODES: u32 = 65536;
 
 // A command and what follows it.
 type Parsed<'f> = Result<(Command<'f>, &'f [u8]), FileFault>;
@@ -22,6 +22,7 @@ type Parsed<'f> = Result<(Command<'f>, &'f [u8]), FileFault>;
 // Some bytes and what follows them.
 type Halves<'f> = Result<(&'f [u8], &'f [u8]), FileFault>;
 
+// A fault at a byte of a command.
 pub fn refused(fault: Fault, place: usize) -> FileFault
     ensures { result ≡ in_command fault place }
 {
@@ -33,7 +34,7 @@ pub fn refused(fault: Fault, place: usize) -> FileFault
 }
 
 // The size of a sort, 0 where it is not declared.
-pub fn size(sizes: &[u8], sort: u8) -> u8
+fn size(sizes: &[u8], sort: u8) -> u8
     ensures { result ≡ size_of sizes.now sort }
 {
     sizes.get(sort as usize).copied().unwrap_or(0)

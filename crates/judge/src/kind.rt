@@ -10,7 +10,7 @@ ghost use Rattle.judge.specs.Surveys.{Surveyed};
 use crate::judging::Judge;
 use crate::verdict::Outcome;
 use domain::{Equal, Kind, NeverRises, Siphon, Turned, WeightDomain};
-use lent::list::LentList;
+use lent::LentList;
 use term::Fault;
 
 impl<'n, 'm> Judge<'n, 'm> {

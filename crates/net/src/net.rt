@@ -3,7 +3,7 @@ ghost use Rattle.net.specs.System.{told_by};
 
 use crate::parts::Parts;
 
-pub mod ask;
+mod ask;
 
 // How many cells there are: 16 places of at most 64 elements.
 pub const CELLS: usize = 1024;

@@ -6,7 +6,7 @@ mod report;
 use anyhow::anyhow;
 use bench::Firing;
 use judge::{Judge, Outcome};
-use lent::list::LentList;
+use lent::LentList;
 use net::{CELLS, Net, ReadError, read};
 use report::{ClaimLine, FaultLine, ReplayLine};
 use std::alloc::{AllocError, Global};

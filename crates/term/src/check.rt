@@ -1,4 +1,4 @@
-ghost use Rattle.std.specs.Prelude.{◌≡◌, ℕ, ◌<◌, ◌≤◌, List, length, nat_eq, IfOk, slice_index};
+ghost use Rattle.std.specs.Prelude.{◌≡◌, ℕ, ◌<◌, ◌≤◌, List, length, nat_eq, IfOk};
 ghost use Rattle.term.specs.Check.{Checked, application_at, check_bag, check_term, checked, constant_at, equality_at, flexible_at, front_of, head_at, in_term, onward, spot, variable_at};
 ghost use Rattle.term.specs.Meaning.{of};
 ghost use Rattle.term.specs.Shape.{Flexible, Passed, PassedBag};

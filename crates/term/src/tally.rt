@@ -1,5 +1,5 @@
 // What the tokens of a bag are added to: counts in memory, or a value in a weight domain.
-ghost use Rattle.std.specs.Prelude.{◌≡◌, ℕ, ◌*◌, ◌<◌, if◌then◌else◌, length, nat_eq, slice_index};
+ghost use Rattle.std.specs.Prelude.{ℕ, ◌*◌, ◌<◌, if◌then◌else◌, length, nat_eq, slice_index};
 ghost use Rattle.term.specs.Adding.{counts_add, weights_add};
 ghost use Rattle.term.specs.Counts.{Added};
 ghost use Rattle.term.specs.Tally.{Adds, CountGains, WeightGains};

@@ -2,7 +2,7 @@
 // no Vec. The two recordings are two types, since the compiler is to refuse what only the other can do.
 ghost use Rattle.std.specs.Prelude.{◌<◌, ◌≤◌};
 
-pub mod methods;
+mod methods;
 
 // A recording that goes on: `len` bytes are written, of a memory of `room` bytes. One byte stays free for the end.
 #[derive(Drop)]

@@ -11,12 +11,12 @@ ghost use Rattle.net.specs.Of.{system};
 use crate::commands::{Command, first};
 use crate::recording::EndedRecording;
 use bench::{Counts, Firing, back_on, begin_on, fire_on, measure};
-use lent::list::LentList;
+use lent::LentList;
 use net::Net;
 use term::Fault;
 
 // The longest trace, by a rule of its own.
-pub const LONGEST: usize = 65536;
+pub(crate) const LONGEST: usize = 65536;
 
 // Where a replay stopped: the fault, and the cell or the byte that it names, else 0.
 #[derive(Clone, Copy, PartialEq, Eq, Debug)]

@@ -20,14 +20,6 @@ pub fn measure(cells: &[u16]) -> Result<(), Fault>
 }
 
 impl<'c> Counts<'c> {
-    // Counts in memory that is measured here; memory of another length gets a fault.
-    pub fn new(cells: &'c mut [u16]) -> Result<Counts<'c>, Fault>
-        ensures { elim result [ Ok k ↦ (length cells.old ≡ 1024) × (k.cells.now ≡ cells.old) × (loan k ≡ cells.entry.ghost_name) | Err e ↦ (length cells.old ≢ 1024) × (e ≡ Memory) ] }
-    {
-        measure(cells)?;
-        Ok(Counts { cells })
-    }
-
     // The count of a cell, 0 past the last.
     pub fn at(&self, c: usize) -> u16
         ensures { result ≡ tokens self.now c }
