@@ -2,8 +2,8 @@
 use Rattle.std.proofs.Common.{◌≡◌, ℕ, ◌+◌, ◌<◌, ◌≤◌, List, [], ◌∷◌, ◌++◌, length, take, Some, Ok, Err, Option, Result, sym, refl, ap, subst, append_assoc, append-nil, arith, length-append, length-take}
 use Rattle.std.specs.Result.{result_err}
 use Rattle.lent.specs.declared.list.LentList.{LentList}
-use Rattle.term.specs.Faults.{number_of}
 use Rattle.term.specs.declared.fault.Fault.{Fault}
+use Rattle.term.specs.declared.fault.Fault.TheVariants as fail
 use Rattle.net.specs.declared.firing.Firing.{Firing}
 use Rattle.net.specs.System.{SystemNet}
 use Rattle.bench.specs.Calls.{Begun, Lent, Leads, marking}
@@ -69,10 +69,10 @@ module _ (n : SystemNet) (bs rest : List ℕ) (l k : Lent) (count : ℕ) (g : Go
       }
 
 -- of a trace that is too long nothing is carried out
-pub ran_long : (n : SystemNet) (bs : List ℕ) (l : Lent) (k : ℕ) (s : Stop) → 65536 < length bs → k ≡ 0 → number_of s.fault ≡ 1 → s.place ≡ 65536 → Ran n bs l l (record { carried = k; stop = Some s })
+pub ran_long : (n : SystemNet) (bs : List ℕ) (l : Lent) (k : ℕ) (s : Stop) → 65536 < length bs → k ≡ 0 → s.fault ≡ fail.TooLong → s.place ≡ 65536 → Ran n bs l l (record { carried = k; stop = Some s })
 ran_long n bs l k s h e f p = record {
   said = [];
-  close = fault 1 65536;
+  close = fault fail.TooLong 65536;
   says = says_only (too_long h);
   plays = record { moves = []; left = []; whole = refl; done = refl; carried = e; stops = (f, p) };
 }

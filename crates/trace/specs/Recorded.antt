@@ -1,7 +1,7 @@
 -- Recordings: which bytes the memory holds, and which fault a call gives.
 use Rattle.std.specs.Prelude.{◌≡◌, ℕ, ◌+◌, min, cond, List, [], ◌∷◌, ◌++◌, length, take, drop, Some, None, Ok, Err, Option, Result, ◌==◌, nat_le}
-use Rattle.term.specs.Faults.{number_of}
 use Rattle.term.specs.declared.fault.Fault.{Fault}
+use Rattle.term.specs.declared.fault.Fault.TheVariants as fail
 use Rattle.trace.specs.Moves.{Move, bytes_of, trace_of, written}
 use Rattle.trace.specs.declared.recording.EndedRecording.{EndedRecording}
 use Rattle.trace.specs.declared.recording.OpenRecording.{OpenRecording}
@@ -18,25 +18,26 @@ Holds mem e ms = take e.len mem ≡ trace_of ms
 abbrev pub put_at : List ℕ → ℕ → List ℕ → List ℕ
 put_at mem at bs = take at mem ++ (bs ++ drop (at + length bs) mem)
 
--- the number of the fault, if a call is refused
-abbrev pub refusal : {X : Type 0} → Result X Fault → Option ℕ
+-- the fault, if a call is refused
+abbrev pub refusal : {X : Type 0} → Result X Fault → Option Fault
 refusal (Ok x) = None
-refusal (Err e) = Some (number_of e)
+refusal (Err e) = Some e
 
--- opening: 24 where the memory has no byte for the end
-abbrev pub opening : List ℕ → Option ℕ
-opening mem = cond (nat_le 1 (length mem)) None (Some 24)
+-- opening: refused where the memory has no byte for the end
+abbrev pub opening : List ℕ → Option Fault
+opening mem = cond (nat_le 1 (length mem)) None (Some fail.RecordingFull)
 
--- adding n bytes: 11 where the memory has another length; 24 where they and the free byte do not fit into the memory or 65,536 bytes
-abbrev pub adding : OpenRecording → List ℕ → ℕ → Option ℕ
+-- adding n bytes: refused where the memory has another length, and where they and the free byte do not fit into the memory
+-- or 65,536 bytes
+abbrev pub adding : OpenRecording → List ℕ → ℕ → Option Fault
 adding o mem n =
     cond (length mem == o.room)
-    (cond (nat_le (o.len + n + 1) (min (length mem) 65536)) None (Some 24))
-    (Some 11)
+    (cond (nat_le (o.len + n + 1) (min (length mem) 65536)) None (Some fail.RecordingFull))
+    (Some fail.Memory)
 
--- memory of n bytes is lent: 11 where it has another length
-abbrev pub measured : ℕ → List ℕ → Option ℕ
-measured n mem = cond (length mem == n) None (Some 11)
+-- memory of n bytes is lent: refused where it has another length
+abbrev pub measured : ℕ → List ℕ → Option Fault
+measured n mem = cond (length mem == n) None (Some fail.Memory)
 
 -- bytes are appended, and nothing else is changed
 pub record Appended (o o' : OpenRecording) (mem mem' bs : List ℕ) : Type 0 where

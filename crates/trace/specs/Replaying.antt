@@ -2,7 +2,6 @@
 use Rattle.std.specs.Prelude.{◌≡◌, ℕ, ◌≤◌, List, [], ◌∷◌, ◌++◌, length, take, Some, None, Ok, Err, Option, Result, ◌≢◌}
 use Rattle.lent.specs.Held.{held, memory as whole}
 use Rattle.lent.specs.declared.list.LentList.{LentList}
-use Rattle.term.specs.Faults.{number_of}
 use Rattle.term.specs.declared.fault.Fault.{Fault}
 use Rattle.term.specs.declared.fault.Fault.TheVariants.{Memory}
 use Rattle.net.specs.Runs.{Bounded, Reachable}
@@ -26,8 +25,8 @@ lends cells l = record { counts = cells; trail = held l; memory = whole l }
 abbrev pub Stops : SystemNet → Lent → List Move → Close → Option Stop → Type 0
 Stops n k [] end None = Unit {0}
 Stops n k [] end (Some s) = ⊥
-Stops n k [] (fault i p) None = ⊥
-Stops n k [] (fault i p) (Some s) = (number_of s.fault ≡ i) × (s.place ≡ p)
+Stops n k [] (fault f p) None = ⊥
+Stops n k [] (fault f p) (Some s) = (s.fault ≡ f) × (s.place ≡ p)
 Stops n k (m ∷ ms) c None = ⊥
 Stops n k (m ∷ ms) c (Some s) = TurnedDown n m k s
 
@@ -63,7 +62,7 @@ pub record Played (n : SystemNet) (bs : List ℕ) (l k : Lent) (r : Replayed) : 
   pub reachable : Reachable n (marking k)
   pub bounded : (c b : ℕ) → Bounded n c b → marking k c ≤ b
 
--- what a replay answers: counts of another length than 1,024 are refused with 11, and nothing is changed; else the trace
+-- what a replay answers: counts of another length than 1,024 are a fault of memory, and nothing is changed; else the trace
 -- is replayed in the memory lent, which holds afterwards what the bench held at the end
 abbrev pub ReplayCalled : SystemNet → List ℕ → List ℕ → LentList Firing → List ℕ → LentList Firing → Result Replayed Fault → Type 0
 ReplayCalled n bs cells trail cells' trail' (Ok r) = (length cells ≡ 1024) × Played n bs (lends cells trail) (lends cells' trail') r
@@ -77,7 +76,7 @@ pub record RecordingPlayed (n : SystemNet) (mem : List ℕ) (e : EndedRecording)
   pub sound : (ms : List Move) → Holds mem e ms → (s : Stop) → r.stop ≡ Some s → FromBench s.fault
 
 -- what the replay of a recording answers: counts of another length than 1,024, or memory of another length than the
--- recording's, are refused with 11, and nothing is changed
+-- recording's, are a fault of memory, and nothing is changed
 abbrev pub RecordingCalled : SystemNet → List ℕ → EndedRecording → List ℕ → LentList Firing → List ℕ → LentList Firing → Result Replayed Fault → Type 0
 RecordingCalled n mem e cells trail cells' trail' (Ok r) =
     (length mem ≡ e.room) × (length cells ≡ 1024) × RecordingPlayed n mem e (lends cells trail) (lends cells' trail') r

@@ -1,6 +1,5 @@
 // Opening a recording, adding commands to it, and ending it.
 ghost use Rattle.std.specs.Prelude.{◌≡◌, ◌+◌, ◌≤◌, List, [], ◌++◌, length, take, IfOk, MatchResult, ◌≢◌};
-ghost use Rattle.term.specs.Faults.{number_of};
 ghost use Rattle.trace.specs.Moves.{Move, bytes_of, move_of};
 ghost use Rattle.trace.specs.Reading.{SaysOnly, end};
 ghost use Rattle.trace.specs.Recorded.{Added, Appended, Closed, Holds, Kept, Records, adding, measured, opening, put_at, refusal};
@@ -80,7 +79,7 @@ impl OpenRecording {
 
     // Writes the end into the free byte. Memory of another length leaves the recording open, and gives it back.
     pub fn end(self, memory: &mut [u8]) -> Result<EndedRecording, (OpenRecording, Fault)>
-        ensures { MatchResult result (λ e. (length memory.old ≡ self.room) × Closed self e memory.old memory.new) (λ p. (length memory.old ≢ self.room) × (p.0 ≡ self) × (number_of p.1 ≡ 11) × (memory.new ≡ memory.old)) }
+        ensures { MatchResult result (λ e. (length memory.old ≡ self.room) × Closed self e memory.old memory.new) (λ p. (length memory.old ≢ self.room) × (p.0 ≡ self) × (p.1 ≡ Fault.Memory) × (memory.new ≡ memory.old)) }
     {
         // no `?`: `self` goes back with the fault
         if let Err(fault) = measure(memory, self.room) {
