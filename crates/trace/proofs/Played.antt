@@ -20,7 +20,6 @@ use Rattle.trace.specs.declared.replays.Replayed.{Replayed}
 use Rattle.trace.specs.declared.replays.Stop.{Stop}
 use Rattle.trace.proofs.Carried.{done_more}
 use Rattle.trace.proofs.Prefixes.{counted, one_more, says_after, says_only, says_written}
-use Rattle.trace.proofs.Refusals.{stops_bench}
 
 -- a replay that goes on: of the bytes, some commands are carried out and counted, from the memory l to k, and the rest
 -- is left
@@ -110,5 +109,5 @@ recording_called n mem e bs cells trail cells' trail' (Ok r) l b h =
     let p : Played n (take e.len mem) (lends cells trail) k r = subst (λ (x : List ℕ). Played n x (lends cells trail) k r) b h.1 in
     let short : length (take e.len mem) ≤ 65536 = simp length-take (omega arith) in
     let plays : (ms : List Move) → Holds mem e ms → Plays n ms end p.start k r = λ ms m. replays n (take e.len mem) ms end p.start k r p.ran (says_written (take e.len mem) ms short m) in
-    (l, h.0, record { played = p; commands = plays; sound = λ ms m s f. stops_bench n k (plays ms m).left r.stop s (plays ms m).stops f })
+    (l, h.0, record { played = p; commands = plays })
 recording_called n mem e bs cells trail cells' trail' (Err f) l b h = ((λ _ c. h.0 c), h.1, h.2, h.3)

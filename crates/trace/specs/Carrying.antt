@@ -1,6 +1,5 @@
 -- What a command does on the bench, and which commands the bench turns down.
-use Rattle.std.specs.Prelude.{◌≡◌, ℕ, ◌≤◌, List, [], ◌∷◌, Ok, Err, Result}
-use Rattle.term.specs.Faults.{number_of}
+use Rattle.std.specs.Prelude.{◌≡◌, ℕ, List, [], ◌∷◌, Ok, Err, Result}
 use Rattle.term.specs.declared.fault.Fault.{Fault}
 use Rattle.term.specs.declared.fault.Fault.TheVariants.{TrailEmpty}
 use Rattle.net.specs.declared.firing.Firing.{Firing}
@@ -30,10 +29,6 @@ abbrev pub Refuses : SystemNet → Move → Lent → Fault → Type 0
 Refuses n (fire t a b c d) l e = FireRefused n (firing t a b c d) l e
 Refuses n back l e = (e ≡ TrailEmpty) × (l.trail ≡ [])
 Refuses n restart l e = ⊥
-
--- a fault of the bench, and none of a trace's bytes
-abbrev pub FromBench : Fault → Type 0
-FromBench e = (17 ≤ number_of e) × (number_of e ≤ 23)
 
 -- the bench turns a command down: it refuses it, and the place is the cell that its fault names
 pub record TurnedDown (n : SystemNet) (m : Move) (l : Lent) (s : Stop) : Type 0 where

