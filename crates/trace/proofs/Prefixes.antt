@@ -2,7 +2,7 @@
 use Rattle.std.proofs.Common.{◌≡◌, ℕ, zero, suc, ◌<◌, ◌≤◌, List, [], ◌∷◌, ◌++◌, length, sym, refl, ap, ◌∙◌, append_assoc, append-nil, arith}
 use Rattle.std.proofs.lemmas.Bool.Decides.{nat_tests}
 use Rattle.term.proofs.Cuts.{tail}
-use Rattle.trace.specs.Moves.{Move, fire, back, restart, bytes_of, trace_of, written}
+use Rattle.trace.specs.Moves.{Move, fire, back, restart, bytes_of, end_bytes, trace_of, written}
 use Rattle.trace.specs.Reading.{First, move, close, Close, end, first_of, Says, SaysOnly, says, too_long}
 
 -- one command, and what follows it
@@ -12,7 +12,7 @@ first_written back rest ends = grind (arith, nat_tests, tail 1 (bytes_of back ++
 first_written restart rest ends = grind (arith, nat_tests, tail 1 (bytes_of restart ++ rest))
 
 -- the end alone
-pub first_end : (ends : ℕ) → first_of (0x4F ∷ []) ends ≡ close end
+pub first_end : (ends : ℕ) → first_of end_bytes ends ≡ close end
 first_end ends = refl
 
 -- commands after commands
@@ -65,7 +65,7 @@ says_only t = record { this = t; only = λ ns d u. says_one u t }
 
 -- what was written and ended is read back, and nothing else
 pub says_written : (bs : List ℕ) (ms : List Move) → length bs ≤ 65536 → bs ≡ trace_of ms → SaysOnly bs ms end
-says_written bs ms l e = says_only (says (0x4F ∷ []) l e (first_end (length bs)))
+says_written bs ms l e = says_only (says end_bytes l e (first_end (length bs)))
 
 -- a command that is read stands there in its bytes
 pub read_written : (bs : List ℕ) (ends : ℕ) (m : Move) (rest : List ℕ) → first_of bs ends ≡ move m rest → bs ≡ bytes_of m ++ rest

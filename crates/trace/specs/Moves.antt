@@ -26,6 +26,10 @@ abbrev pub written : List Move → List ℕ
 written [] = []
 written (m ∷ ms) = bytes_of m ++ written ms
 
+-- the bytes of the end
+abbrev pub end_bytes : List ℕ
+end_bytes = 0x4F ∷ []
+
 -- a whole trace: the commands and then the end
 abbrev pub trace_of : List Move → List ℕ
-trace_of ms = written ms ++ (0x4F ∷ [])
+trace_of ms = written ms ++ end_bytes

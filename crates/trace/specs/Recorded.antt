@@ -2,7 +2,7 @@
 use Rattle.std.specs.Prelude.{◌≡◌, ℕ, ◌+◌, min, cond, List, [], ◌∷◌, ◌++◌, length, take, drop, Some, None, Ok, Err, Option, Result, ◌==◌, nat_le}
 use Rattle.term.specs.declared.fault.Fault.{Fault}
 use Rattle.term.specs.declared.fault.Fault.TheVariants as fail
-use Rattle.trace.specs.Moves.{Move, bytes_of, trace_of, written}
+use Rattle.trace.specs.Moves.{Move, bytes_of, end_bytes, trace_of, written}
 use Rattle.trace.specs.declared.recording.EndedRecording.{EndedRecording}
 use Rattle.trace.specs.declared.recording.OpenRecording.{OpenRecording}
 
@@ -57,7 +57,7 @@ pub record Added (o o' : OpenRecording) (mem mem' : List ℕ) (m : Move) : Type 
 
 -- the end is written, and what was recorded is a whole trace
 pub record Closed (o : OpenRecording) (e : EndedRecording) (mem mem' : List ℕ) : Type 0 where
-  pub memory : mem' ≡ put_at mem o.len (0x4F ∷ [])
+  pub memory : mem' ≡ put_at mem o.len end_bytes
   pub len : e.len ≡ o.len + 1
   pub room : e.room ≡ o.room
   pub records : (ms : List Move) → Records mem o ms → Holds mem' e ms
