@@ -1,7 +1,8 @@
 -- What the bytes of a trace say.
-use Rattle.std.specs.Prelude.{◌≡◌, ℕ, ◌+◌, ◌-◌, ◌<◌, ◌≤◌, cond, List, [], ◌++◌, length, Some, None, Ok, Err, Option, Result, ◌==◌, nat_le, slice_index}
+use Rattle.std.specs.Prelude.{◌≡◌, ℕ, ◌<◌, ◌≤◌, cond, List, [], ◌++◌, length, Some, None, Ok, Err, Option, Result, ◌==◌, nat_le, slice_index}
 use Rattle.std.specs.Borrow.{Bor}
 use Rattle.std.specs.List.{between}
+use Rattle.term.specs.Check.{spot}
 use Rattle.term.specs.declared.fault.Fault.{Fault}
 use Rattle.term.specs.declared.fault.Fault.TheVariants as fail
 use Rattle.trace.specs.declared.commands.Command.{Command}
@@ -27,7 +28,7 @@ fire_at bs ends =
 
 -- the end: nothing may follow it, or there is a fault at the first byte after it
 abbrev pub end_at : List ℕ → ℕ → First
-end_at bs ends = cond (nat_le 2 (length bs)) (close (fault fail.Trailing (ends - length bs + 1))) (close end)
+end_at bs ends = cond (nat_le 2 (length bs)) (close (fault fail.Trailing (spot bs ends 1))) (close end)
 
 -- what the bytes bs, the last of a trace of so many bytes, begin with: where there is no byte, a fault at the
 -- length; where it is no command, at that byte
@@ -38,7 +39,7 @@ first_of bs ends =
     (cond (slice_index bs 0 == 0x41) (move back (between 1 (length bs) bs))
     (cond (slice_index bs 0 == 0x42) (move restart (between 1 (length bs) bs))
     (cond (slice_index bs 0 == 0x4F) (end_at bs ends)
-    (close (fault fail.NoCommand (ends - length bs)))))))
+    (close (fault fail.NoCommand (spot bs ends 0)))))))
     (close (fault fail.Ends ends))
 
 -- what was read
