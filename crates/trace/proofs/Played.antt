@@ -10,7 +10,7 @@ use Rattle.bench.specs.Calls.{Begun, Lent, Leads, marking}
 use Rattle.net.specs.Runs.{Reachable}
 use Rattle.bench.proofs.Walks.{reachable}
 use Rattle.trace.specs.Carrying.{Does, Done, Refuses, TurnedDown}
-use Rattle.trace.specs.Moves.{Move, written}
+use Rattle.trace.specs.Moves.{Move, longest_trace, written}
 use Rattle.trace.specs.Stops.{cell_of}
 use Rattle.trace.specs.Reading.{Close, SaysOnly, close, end, fault, first_of, move, says, too_long}
 use Rattle.trace.specs.Recorded.{Holds}
@@ -28,11 +28,11 @@ pub record Going (n : SystemNet) (bs rest : List ℕ) (l k : Lent) (count : ℕ)
   pub begins : bs ≡ written moves ++ rest
   pub counted : count ≡ length moves
   pub done : Done n l moves k
-  pub short : length bs ≤ 65536
+  pub short : length bs ≤ longest_trace
 
 module _ (n : SystemNet) (bs rest : List ℕ) (l k : Lent) (count : ℕ) (g : Going n bs rest l k count) where
   -- so few commands that the count is exact
-  pub few : count ≤ 65536
+  pub few : count ≤ longest_trace
   few = let e = g.counted in let s = g.short in let b = ap length g.begins in omega (arith, counted g.moves rest, e, s, b)
 
   -- one command more
@@ -68,10 +68,10 @@ module _ (n : SystemNet) (bs rest : List ℕ) (l k : Lent) (count : ℕ) (g : Go
       }
 
 -- of a trace that is too long nothing is carried out
-pub ran_long : (n : SystemNet) (bs : List ℕ) (l : Lent) (k : ℕ) (s : Stop) → 65536 < length bs → k ≡ 0 → s.fault ≡ fail.TooLong → s.place ≡ 65536 → Ran n bs l l (record { carried = k; stop = Some s })
+pub ran_long : (n : SystemNet) (bs : List ℕ) (l : Lent) (k : ℕ) (s : Stop) → longest_trace < length bs → k ≡ 0 → s.fault ≡ fail.TooLong → s.place ≡ longest_trace → Ran n bs l l (record { carried = k; stop = Some s })
 ran_long n bs l k s h e f p = record {
   said = [];
-  close = fault fail.TooLong 65536;
+  close = fault fail.TooLong longest_trace;
   says = says_only (too_long h);
   plays = record { moves = []; left = []; whole = refl; done = refl; carried = e; stops = (f, p) };
 }
@@ -107,7 +107,7 @@ pub recording_called : (n : SystemNet) (mem : List ℕ) (e : EndedRecording) (bs
 recording_called n mem e bs cells trail cells' trail' (Ok r) l b h =
     let k = lends cells' trail' in
     let p : Played n (take e.len mem) (lends cells trail) k r = subst (λ (x : List ℕ). Played n x (lends cells trail) k r) b h.1 in
-    let short : length (take e.len mem) ≤ 65536 = simp length-take (omega arith) in
+    let short : length (take e.len mem) ≤ longest_trace = simp length-take (omega arith) in
     let plays : (ms : List Move) → Holds mem e ms → Plays n ms end p.start k r = λ ms m. replays n (take e.len mem) ms end p.start k r p.ran (says_written (take e.len mem) ms short m) in
     (l, h.0, record { played = p; commands = plays })
 recording_called n mem e bs cells trail cells' trail' (Err f) l b h = ((λ _ c. h.0 c), h.1, h.2, h.3)

@@ -2,7 +2,7 @@
 use Rattle.std.proofs.Common.{◌≡◌, ℕ, zero, suc, ◌<◌, ◌≤◌, List, [], ◌∷◌, ◌++◌, length, sym, refl, ap, ◌∙◌, append_assoc, append-nil, arith}
 use Rattle.std.proofs.lemmas.Bool.Decides.{nat_tests}
 use Rattle.term.proofs.Cuts.{tail}
-use Rattle.trace.specs.Moves.{Move, fire, back, restart, bytes_of, end_bytes, trace_of, written}
+use Rattle.trace.specs.Moves.{Move, fire, back, restart, bytes_of, end_bytes, longest_trace, trace_of, written}
 use Rattle.trace.specs.Reading.{First, move, close, Close, end, first_of, Says, SaysOnly, says, too_long}
 
 -- one command, and what follows it
@@ -64,7 +64,7 @@ pub says_only : {bs : List ℕ} {ms : List Move} {c : Close} → Says bs ms c �
 says_only t = record { this = t; only = λ ns d u. says_one u t }
 
 -- what was written and ended is read back, and nothing else
-pub says_written : (bs : List ℕ) (ms : List Move) → length bs ≤ 65536 → bs ≡ trace_of ms → SaysOnly bs ms end
+pub says_written : (bs : List ℕ) (ms : List Move) → length bs ≤ longest_trace → bs ≡ trace_of ms → SaysOnly bs ms end
 says_written bs ms l e = says_only (says end_bytes l e (first_end (length bs)))
 
 -- a command that is read stands there in its bytes
@@ -115,7 +115,7 @@ reads (suc n) bs ends (move m rest) e l =
     (m ∷ g.0, g.1, g.2, w ∙ ap (λ l. bytes_of m ++ l) g.3 ∙ sym (append_assoc (bytes_of m) (written g.0) g.2), g.4)
 
 -- commands that a trace begins with are the first of those that it says
-pub says_after : (bs : List ℕ) (ms : List Move) (rest : List ℕ) → length bs ≤ 65536 → bs ≡ written ms ++ rest → (ks : List Move) × (c : Close) × Says bs (ms ++ ks) c
+pub says_after : (bs : List ℕ) (ms : List Move) (rest : List ℕ) → length bs ≤ longest_trace → bs ≡ written ms ++ rest → (ks : List Move) × (c : Close) × Says bs (ms ++ ks) c
 says_after bs ms rest l e =
     let g = reads (length rest) rest (length bs) (first_of rest (length bs)) refl (omega arith) in
     let w : bs ≡ written (ms ++ g.0) ++ g.2 = e ∙ ap (λ x. written ms ++ x) g.3 ∙ sym (append_assoc (written ms) (written g.0) g.2) ∙ ap (λ x. x ++ g.2) (sym (written_append ms g.0)) in

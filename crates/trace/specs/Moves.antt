@@ -3,6 +3,10 @@ use Rattle.std.specs.Prelude.{ℕ, List, [], ◌∷◌, ◌++◌, slice_index}
 use Rattle.trace.specs.declared.commands.Command.{Command}
 use Rattle.trace.specs.declared.commands.Command.TheVariants as command
 
+-- how many bytes a trace may have
+abbrev pub longest_trace : ℕ
+longest_trace = 65536
+
 -- what a handset did on the bench: fired a transition in the mode of four numbers, went back, or restarted
 pub data Move : Type 0 where
   fire : ℕ → ℕ → ℕ → ℕ → ℕ → Move

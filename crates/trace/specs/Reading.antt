@@ -7,7 +7,7 @@ use Rattle.term.specs.declared.fault.Fault.{Fault}
 use Rattle.term.specs.declared.fault.Fault.TheVariants as fail
 use Rattle.trace.specs.declared.commands.Command.{Command}
 use Rattle.trace.specs.declared.replays.Stop.{Stop}
-use Rattle.trace.specs.Moves.{Move, fire, back, restart, move_of, written}
+use Rattle.trace.specs.Moves.{Move, fire, back, restart, longest_trace, move_of, written}
 
 -- what closes a trace: its end, or a fault at a byte
 pub data Close : Type 0 where
@@ -55,10 +55,10 @@ Shorter (Ok None) n = Unit {0}
 Shorter (Err stop) n = Unit {0}
 
 -- what a whole trace says: commands, written one after the other, and what closes it behind them;
--- nothing of a trace of more than 65,536 bytes, which is too long at 65,536
+-- nothing of a trace longer than the longest, which is a fault at that length
 pub data Says (bs : List ℕ) : List Move → Close → Type 0 where
-  says : {ms : List Move} {c : Close} (rest : List ℕ) → length bs ≤ 65536 → bs ≡ written ms ++ rest → first_of rest (length bs) ≡ close c → Says bs ms c
-  too_long : 65536 < length bs → Says bs [] (fault fail.TooLong 65536)
+  says : {ms : List Move} {c : Close} (rest : List ℕ) → length bs ≤ longest_trace → bs ≡ written ms ++ rest → first_of rest (length bs) ≡ close c → Says bs ms c
+  too_long : longest_trace < length bs → Says bs [] (fault fail.TooLong longest_trace)
 
 -- a trace says these commands and closes so, and it says nothing else
 pub record SaysOnly (bs : List ℕ) (ms : List Move) (c : Close) : Type 0 where

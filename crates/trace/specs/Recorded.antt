@@ -2,7 +2,7 @@
 use Rattle.std.specs.Prelude.{◌≡◌, ℕ, ◌+◌, min, cond, List, [], ◌∷◌, ◌++◌, length, take, drop, Some, None, Ok, Err, Option, Result, ◌==◌, nat_le}
 use Rattle.term.specs.declared.fault.Fault.{Fault}
 use Rattle.term.specs.declared.fault.Fault.TheVariants as fail
-use Rattle.trace.specs.Moves.{Move, bytes_of, end_bytes, trace_of, written}
+use Rattle.trace.specs.Moves.{Move, bytes_of, end_bytes, longest_trace, trace_of, written}
 use Rattle.trace.specs.declared.recording.EndedRecording.{EndedRecording}
 use Rattle.trace.specs.declared.recording.OpenRecording.{OpenRecording}
 
@@ -28,11 +28,11 @@ abbrev pub opening : List ℕ → Option Fault
 opening mem = cond (nat_le 1 (length mem)) None (Some fail.RecordingFull)
 
 -- adding n bytes: refused where the memory has another length, and where they and the free byte do not fit into the memory
--- or 65,536 bytes
+-- or into a trace
 abbrev pub adding : OpenRecording → List ℕ → ℕ → Option Fault
 adding o mem n =
     cond (length mem == o.room)
-    (cond (nat_le (o.len + n + 1) (min (length mem) 65536)) None (Some fail.RecordingFull))
+    (cond (nat_le (o.len + n + 1) (min (length mem) longest_trace)) None (Some fail.RecordingFull))
     (Some fail.Memory)
 
 -- memory of n bytes is lent: refused where it has another length
