@@ -1,5 +1,5 @@
 -- Recordings: which bytes the memory holds, and which fault a call gives.
-use Rattle.std.specs.Prelude.{◌≡◌, ℕ, ◌+◌, min, cond, List, [], ◌∷◌, ◌++◌, length, take, drop, Some, None, Ok, Err, Option, Result, ◌==◌, nat_le}
+use Rattle.std.specs.Prelude.{◌≡◌, ℕ, ◌+◌, min, cond, List, [], ◌∷◌, ◌++◌, length, take, drop, Some, None, Option, ◌==◌, nat_le}
 use Rattle.term.specs.declared.fault.Fault.{Fault}
 use Rattle.term.specs.declared.fault.Fault.TheVariants as fail
 use Rattle.trace.specs.Moves.{Move, bytes_of, end_bytes, longest_trace, trace_of, written}
@@ -17,11 +17,6 @@ Holds mem e ms = take e.len mem ≡ trace_of ms
 -- the memory with some bytes written at a place, the rest as it was
 abbrev pub put_at : List ℕ → ℕ → List ℕ → List ℕ
 put_at mem at bs = take at mem ++ (bs ++ drop (at + length bs) mem)
-
--- the fault, if a call is refused
-abbrev pub refusal : {X : Type 0} → Result X Fault → Option Fault
-refusal (Ok x) = None
-refusal (Err e) = Some e
 
 -- opening: refused where the memory has no byte for the end
 abbrev pub opening : List ℕ → Option Fault
