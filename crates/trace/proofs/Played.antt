@@ -13,7 +13,7 @@ use Rattle.trace.specs.Carrying.{Does, Done, Refuses, TurnedDown}
 use Rattle.trace.specs.Moves.{Move, longest_trace, written}
 use Rattle.trace.specs.Stops.{cell_of}
 use Rattle.trace.specs.Reading.{Close, SaysOnly, close, end, fault, first_of, move, says, too_long}
-use Rattle.trace.specs.Recorded.{Holds}
+use Rattle.trace.specs.Recorded.{HoldsTrace}
 use Rattle.trace.specs.Replaying.{Played, Plays, Ran, RecordingCalled, ReplayCalled, Stops, lends, replayed}
 use Rattle.trace.specs.declared.recording.EndedRecording.{EndedRecording}
 use Rattle.trace.specs.declared.replays.Replayed.{Replayed}
@@ -108,6 +108,6 @@ recording_called n mem e bs cells trail cells' trail' (Ok r) l b h =
     let k = lends cells' trail' in
     let p : Played n (take e.len mem) (lends cells trail) k r = subst (λ (x : List ℕ). Played n x (lends cells trail) k r) b h.1 in
     let short : length (take e.len mem) ≤ longest_trace = simp length-take (omega arith) in
-    let plays : (ms : List Move) → Holds mem e ms → Plays n ms end p.start k r = λ ms m. replays n (take e.len mem) ms end p.start k r p.ran (says_written (take e.len mem) ms short m) in
+    let plays : (ms : List Move) → HoldsTrace mem e ms → Plays n ms end p.start k r = λ ms m. replays n (take e.len mem) ms end p.start k r p.ran (says_written (take e.len mem) ms short m) in
     (l, h.0, record { played = p; commands = plays })
 recording_called n mem e bs cells trail cells' trail' (Err f) l b h = ((λ _ c. h.0 c), h.1, h.2, h.3)

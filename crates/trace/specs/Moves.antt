@@ -20,15 +20,15 @@ move_of command.Back = back
 move_of command.Restart = restart
 
 -- the bytes of a command: its code, then its operands
-abbrev pub bytes_of : Move → List ℕ
-bytes_of (fire t a b c d) = 0x40 ∷ t ∷ a ∷ b ∷ c ∷ d ∷ []
-bytes_of back = 0x41 ∷ []
-bytes_of restart = 0x42 ∷ []
+abbrev pub move_bytes : Move → List ℕ
+move_bytes (fire t a b c d) = 0x40 ∷ t ∷ a ∷ b ∷ c ∷ d ∷ []
+move_bytes back = 0x41 ∷ []
+move_bytes restart = 0x42 ∷ []
 
 -- the bytes of commands, one after the other
 abbrev pub written : List Move → List ℕ
 written [] = []
-written (m ∷ ms) = bytes_of m ++ written ms
+written (m ∷ ms) = move_bytes m ++ written ms
 
 -- the bytes of the end
 abbrev pub end_bytes : List ℕ

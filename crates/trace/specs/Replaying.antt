@@ -11,7 +11,7 @@ use Rattle.bench.specs.Calls.{Begun, Lent, Leads, marking}
 use Rattle.trace.specs.Carrying.{Done, TurnedDown}
 use Rattle.trace.specs.Moves.{Move}
 use Rattle.trace.specs.Reading.{Close, SaysOnly, end, fault}
-use Rattle.trace.specs.Recorded.{Holds}
+use Rattle.trace.specs.Recorded.{HoldsTrace}
 use Rattle.trace.specs.declared.recording.EndedRecording.{EndedRecording}
 use Rattle.trace.specs.declared.replays.Replayed.{Replayed}
 use Rattle.trace.specs.declared.replays.Stop.{Stop}
@@ -72,7 +72,7 @@ ReplayCalled n bs counts trail counts' trail' (Err e) = (length counts ≢ cells
 -- to the first that the bench turns down; so no fault of the bytes ever stops it
 pub record RecordingPlayed (n : SystemNet) (mem : List ℕ) (e : EndedRecording) (l k : Lent) (r : Replayed) : Type 0 where
   pub played : Played n (take e.len mem) l k r
-  pub commands : (ms : List Move) → Holds mem e ms → Plays n ms end played.start k r
+  pub commands : (ms : List Move) → HoldsTrace mem e ms → Plays n ms end played.start k r
 
 -- what the replay of a recording answers: counts that are not one for each cell, or memory of another length than the
 -- recording's, are a fault of memory, and nothing is changed
