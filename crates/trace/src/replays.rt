@@ -133,7 +133,8 @@ pub fn replay(
     trail: &mut LentList<Firing>,
     bytes: &[u8],
 ) -> Result<Replayed, Fault>
-    ensures { ReplayCalled (system net.now) bytes.now cells.old trail.old cells.new trail.new result }
+    ensures called { ReplayCalled (system net.now) bytes.now cells.old trail.old cells.new trail.new result }
+    ensures trail_loan { list.loan trail.new ≡ list.loan trail.old }
 {
     measure(cells)?;
     let mut counts = Counts { cells };
@@ -148,7 +149,8 @@ pub fn replay_recording(
     ended: &EndedRecording,
     memory: &[u8],
 ) -> Result<Replayed, Fault>
-    ensures { RecordingCalled (system net.now) memory.now ended.now cells.old trail.old cells.new trail.new result }
+    ensures called { RecordingCalled (system net.now) memory.now ended.now cells.old trail.old cells.new trail.new result }
+    ensures trail_loan { list.loan trail.new ≡ list.loan trail.old }
 {
     let bytes = ended.trace(memory)?;
     replay(net, cells, trail, bytes)

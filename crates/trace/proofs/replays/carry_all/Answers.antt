@@ -1,6 +1,5 @@
 use Rattle.std.proofs.Common.{◌≡◌, ◌∙◌, None, Some, length, ap, arith, rules, refl, subst, sym}
 use Rattle.std.proofs.lemmas.Result.{err_from_is_err_and}
-use Rattle.term.specs.Faults.{number_of}
 use Rattle.term.specs.declared.fault.Fault.{Fault}
 use Rattle.bench.specs.Calls.{lent}
 use Rattle.trace.specs.Carrying.{Refuses}
@@ -13,17 +12,17 @@ use Rattle.trace.proofs.replays.carry_all.Goals as goal
 
 pub returns-then-bytes-gt-LONGEST-clause-ran : goal.returns-then-bytes-gt-LONGEST-clause-ran
 returns-then-bytes-gt-LONGEST-clause-ran c =
-    ran_long _ _ _ _ c.at.result (omega arith) c.requires.counted (ap number_of c.at.ensures.0) c.at.ensures.1
+    ran_long _ _ _ _ c.at.result (omega arith) c.requires.counted c.at.ensures.0 c.at.ensures.1
 
 pub returns-in_err-command-clause-ran : goal.returns-in_err-command-clause-ran
 returns-in_err-command-clause-ran c =
     let i = c.commands.invariant in
     let e = err_from_is_err_and c.from_residual.result c.from_residual.ensures.1 in
     let s = c.in_err-command.field-0.0 in
-    let h : first_of c.commands.rest.now (length c.args.bytes.now) ≡ close (fault (number_of s.fault) s.place) = sym c.in_err-command.ensures.value in
+    let h : first_of c.commands.rest.now (length c.args.bytes.now) ≡ close (fault s.fault s.place) = sym c.in_err-command.ensures.value in
     let a = e.2 in
     let same : e.0 ≡ s = cc in
-    rw (e.1, same) (ran_closed _ _ _ _ _ _ i.0 (fault (number_of s.fault) s.place) (Some s) h (refl, refl))
+    rw (e.1, same) (ran_closed _ _ _ _ _ _ i.0 (fault s.fault s.place) (Some s) h (refl, refl))
 
 pub returns-in_err-carry_out-clause-ran : goal.returns-in_err-carry_out-clause-ran
 returns-in_err-carry_out-clause-ran c =
