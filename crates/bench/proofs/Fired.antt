@@ -96,7 +96,7 @@ module _ (net : Net) (f : Firing) (l : Lent) (p : Led (system net) l.trail (mark
       let b : Marking = λ x. marking l x - taken n t m x + given n t m x in
       let fires : Fires n t m (marking l) b
       = record { there = o.there; four = four; mode = o.mode; guard = o.guard; enough = λ x i. least (marking l x) (taken n t m x) (why.1 x i); new = λ x i. refl } in
-      let low = limit b (reachable-next n l.trail (marking l) p t m b fires) in
+      let low = limit b (reachable-next n l.trail (marking l) p f b fires) in
       let high = why.2.here in
       let z : ⊥ = omega arith in
       z

@@ -3,6 +3,7 @@ use Rattle.std.specs.Prelude.{◌≡◌, ℕ, ◌+◌, ◌-◌, ◌<◌, ◌≤�
 use Rattle.term.specs.Worth.{Marking}
 use Rattle.net.specs.Nets.{Mode, given, guard_holds, taken, transition}
 use Rattle.net.specs.System.{SystemNet, cells}
+use Rattle.net.specs.declared.firing.Firing.{Firing}
 
 -- counts in memory are those of a marking
 abbrev pub Counted : List ℕ → Marking → Type 0
@@ -17,10 +18,10 @@ pub record Fires (n : SystemNet) (t : ℕ) (m : List ℕ) (a b : Marking) : Type
   pub enough : (c : ℕ) → c < cells → taken n t m c ≤ a c
   pub new : (c : ℕ) → c < cells → b c ≡ a c - taken n t m c + given n t m c
 
--- firings, each a transition and a mode, lead one after the other from a to b
-abbrev pub Run : SystemNet → Marking → List (ℕ × List ℕ) → Marking → Type 0
+-- firings lead one after the other from a to b
+abbrev pub Run : SystemNet → Marking → List Firing → Marking → Type 0
 Run n a [] b = (c : ℕ) → c < cells → a c ≡ b c
-Run n a (f ∷ fs) b = (x : Marking) × (Fires n f.0 f.1 a x × Run n x fs b)
+Run n a (f ∷ fs) b = (x : Marking) × (Fires n f.transition f.mode a x × Run n x fs b)
 
 -- the initial marking
 abbrev pub initial : SystemNet → Marking
@@ -28,7 +29,7 @@ initial n c = slice_index n.initial c
 
 -- a run of firings leads from the initial marking to this one
 abbrev pub Reachable : SystemNet → Marking → Type 0
-Reachable n m = (fs : List (ℕ × List ℕ)) × Run n (initial n) fs m
+Reachable n m = (fs : List Firing) × Run n (initial n) fs m
 
 -- no marking that can be reached has more than k tokens in the cell
 abbrev pub Bounded : SystemNet → ℕ → ℕ → Type 0

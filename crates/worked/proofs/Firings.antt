@@ -12,7 +12,7 @@ use Rattle.net.specs.System.{SystemNet, cells}
 use Rattle.net.specs.declared.firing.Firing.{Firing}
 use Rattle.bench.specs.Calls.{FireCalled, Lacking, Lent, Lowest, Nowhere, Open, Passing, marking}
 use Rattle.bench.specs.Path.{Alike}
-use Rattle.worked.specs.Rows.{Answer, Leads, Replies, StandsAt, fire_shown, fired, pair, refusal}
+use Rattle.worked.specs.Rows.{Answer, Leads, Replies, StandsAt, fire_shown, fired, refusal}
 use Rattle.worked.proofs.First.{IsFirst, first, first_is, order}
 use Rattle.worked.proofs.Verdicts.{Sound, both_true}
 
@@ -108,7 +108,7 @@ module _ (n : SystemNet) where
   -- the marking found is one to which the firings lead
   abbrev Found : Marking → List Firing → Option Marking → Type 0
   Found x fs None = Unit {0}
-  Found x fs (Some y) = Run n x (map pair fs) y
+  Found x fs (Some y) = Run n x fs y
 
   found : (x : Marking) (fs : List Firing) → Found x fs (run_to n x fs)
   found x [] = λ c h. refl
@@ -131,7 +131,7 @@ module _ (n : SystemNet) where
   Alone b None = Unit {0}
   Alone b (Some y) = Alike b y
 
-  alone : (x a b : Marking) (fs : List Firing) → Alike a x → Run n a (map pair fs) b → Alone b (run_to n x fs)
+  alone : (x a b : Marking) (fs : List Firing) → Alike a x → Run n a fs b → Alone b (run_to n x fs)
   alone x a b [] same r = λ c h. sym (r c h) ∙ same c h
   alone x a b (f ∷ fs) same r = by_open (opens n f) (alone (next n f x) r.0 b fs (λ c h. r.1.0.new c h ∙ after n f a x same c h) r.1.1)
     where
