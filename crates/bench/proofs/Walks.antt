@@ -8,9 +8,9 @@ use Rattle.term.specs.Worth.{Marking}
 use Rattle.net.specs.declared.firing.Firing.{Firing}
 use Rattle.net.specs.System.{SystemNet}
 use Rattle.net.specs.Nets.{given, taken}
-use Rattle.net.specs.Runs.{Reachable, Fires, Run, initial}
+use Rattle.net.specs.Runs.{Alike, Reachable, Fires, Run, initial}
 use Rattle.bench.specs.Calls.{Returns}
-use Rattle.bench.specs.Path.{Alike, Led, Path, Small}
+use Rattle.bench.specs.Path.{Led, Path, Small}
 
 small-from : (a b : Marking) → Alike a b → Small b → Small a
 small-from a b e s c h = let z = e c h in let y = s c h in omega arith

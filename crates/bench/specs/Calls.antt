@@ -8,11 +8,11 @@ use Rattle.term.specs.declared.fault.Fault.TheVariants as fault
 use Rattle.net.specs.declared.firing.Firing.{Firing}
 use Rattle.net.specs.System.{SystemNet, cells}
 use Rattle.net.specs.Nets.{HasCell, Mode, given, guard_holds, taken, transition}
-use Rattle.net.specs.Runs.{Fires, initial}
+use Rattle.net.specs.Runs.{Alike, Fires, initial}
 use Rattle.bench.specs.Counted.{changed, tokens}
 use Rattle.bench.specs.declared.change.Change.{Change}
 use Rattle.bench.specs.declared.counts.Counts.{Counts}
-use Rattle.bench.specs.Path.{Alike, Led, Small}
+use Rattle.bench.specs.Path.{Led, Small}
 
 -- the memory of a bench: the counts, the firings on the trail, oldest first, and the whole memory of the trail
 pub record Lent : Type 0 where
@@ -34,7 +34,7 @@ Leads n l = Led n l.trail (marking l)
 
 -- begun from the memory l to k: the marking is the initial one, and the trail is empty, with its memory as it was
 pub record Begun (n : SystemNet) (l k : Lent) : Type 0 where
-  pub counts : (c : ℕ) → c < cells → marking k c ≡ initial n c
+  pub counts : Alike (marking k) (initial n)
   pub trail : k.trail ≡ []
   pub memory : k.memory ≡ l.memory
 

@@ -1,21 +1,17 @@
 -- Runs that a bench can show, where each firing stands on the trail and each marking fits sixteen bits; and what bounds
 -- the markings of all runs.
-use Rattle.std.specs.Prelude.{◌≡◌, ℕ, ◌^◌, ◌<◌, ◌≤◌, List, [], ◌∷◌, Err, Result, ◌≢◌}
+use Rattle.std.specs.Prelude.{ℕ, ◌^◌, ◌<◌, ◌≤◌, List, [], ◌∷◌, Err, Result, ◌≢◌}
 use Rattle.term.specs.Worth.{Marking}
 use Rattle.term.specs.declared.fault.Fault.{Fault}
 use Rattle.term.specs.declared.fault.Fault.TheVariants.{Full}
 use Rattle.net.specs.declared.firing.Firing.{Firing}
 use Rattle.net.specs.Nets.{HasCell}
 use Rattle.net.specs.System.{SystemNet, cells}
-use Rattle.net.specs.Runs.{Bounded, Fires, initial}
+use Rattle.net.specs.Runs.{Alike, Bounded, Fires, initial}
 
 -- no cell holds more than 65,535
 abbrev pub Small : Marking → Type 0
 Small a = (c : ℕ) → c < cells → a c < 2 ^ 16
-
--- two markings have the same in each cell
-abbrev pub Alike : Marking → Marking → Type 0
-Alike a b = (c : ℕ) → c < cells → a c ≡ b c
 
 -- the firings lead, one after the other, from a to b, over markings that fit sixteen bits
 abbrev pub Path : SystemNet → Marking → List Firing → Marking → Type 0

@@ -18,9 +18,13 @@ pub record Fires (n : SystemNet) (t : ℕ) (m : List ℕ) (a b : Marking) : Type
   pub enough : (c : ℕ) → c < cells → taken n t m c ≤ a c
   pub new : (c : ℕ) → c < cells → b c ≡ a c - taken n t m c + given n t m c
 
+-- two markings have the same in each cell
+abbrev pub Alike : Marking → Marking → Type 0
+Alike a b = (c : ℕ) → c < cells → a c ≡ b c
+
 -- firings lead one after the other from a to b
 abbrev pub Run : SystemNet → Marking → List Firing → Marking → Type 0
-Run n a [] b = (c : ℕ) → c < cells → a c ≡ b c
+Run n a [] b = Alike a b
 Run n a (f ∷ fs) b = (x : Marking) × (Fires n f.transition f.mode a x × Run n x fs b)
 
 -- the initial marking

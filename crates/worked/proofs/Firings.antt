@@ -7,11 +7,10 @@ use Rattle.term.specs.Worth.{Marking}
 use Rattle.term.specs.declared.fault.Fault.{Fault}
 use Rattle.term.specs.declared.fault.Fault.TheVariants as fault
 use Rattle.net.specs.Nets.{given, guard_holds, taken, transition}
-use Rattle.net.specs.Runs.{Fires, Run, initial}
+use Rattle.net.specs.Runs.{Alike, Fires, Run, initial}
 use Rattle.net.specs.System.{SystemNet, cells}
 use Rattle.net.specs.declared.firing.Firing.{Firing}
 use Rattle.bench.specs.Calls.{FireCalled, Lacking, Lent, Lowest, Nowhere, Open, Passing, marking}
-use Rattle.bench.specs.Path.{Alike}
 use Rattle.worked.specs.Rows.{Answer, Leads, Replies, StandsAt, fire_shown, fired, refusal}
 use Rattle.worked.proofs.First.{IsFirst, first, first_is, order}
 use Rattle.worked.proofs.Verdicts.{Sound, both_true}

@@ -9,14 +9,13 @@ use Rattle.term.specs.declared.fault.FileFault.{FileFault}
 use Rattle.term.specs.declared.fault.Stage.{Stage}
 use Rattle.net.specs.Nets.{IsKind}
 use Rattle.net.specs.Reading.{Told, arc_count, told}
-use Rattle.net.specs.Runs.{Run, initial}
+use Rattle.net.specs.Runs.{Alike, Run, initial}
 use Rattle.net.specs.System.{SystemNet}
 use Rattle.net.specs.declared.firing.Firing.{Firing}
 use Rattle.judge.specs.Calls.{Fits, Memory}
 use Rattle.judge.specs.Caps.{AskedByKind}
 use Rattle.judge.specs.Kinds.{ByKind, Outcome}
 use Rattle.bench.specs.Calls.{FireCalled, Lent, marking}
-use Rattle.bench.specs.Path.{Alike}
 
 -- what is asked: whether the file reads; the verdict on a claim; the cap of a cell by a claim; or what a firing does,
 -- after other firings from the initial marking
