@@ -18,16 +18,12 @@ small-from a b e s c h = let z = e c h in let y = s c h in omega arith
 module _ (n : SystemNet) where
   fires-from : (t : ℕ) (m : List ℕ) (a b x : Marking) → Alike a b → Fires n t m b x → Fires n t m a x
   fires-from t m a b x e f = record {
-    there = f.there;
-    four = f.four;
-    mode = f.mode;
-    guard = f.guard;
-    enough = λ c h. let s = e c h in let z = f.enough c h in omega arith;
+    enabled = record { is_open = f.enabled.is_open; enough = λ c h. let s = e c h in let z = f.enabled.enough c h in omega arith };
     new = λ c h. f.new c h ∙ ap (λ z. z - taken n t m c + given n t m c) (sym (e c h));
   }
 
   fires-to : (t : ℕ) (m : List ℕ) (a b x : Marking) → Alike b x → Fires n t m a b → Fires n t m a x
-  fires-to t m a b x e f = record { there = f.there; four = f.four; mode = f.mode; guard = f.guard; enough = f.enough; new = λ c h. sym (e c h) ∙ f.new c h }
+  fires-to t m a b x e f = record { enabled = f.enabled; new = λ c h. sym (e c h) ∙ f.new c h }
 
   path-from : (a b : Marking) (fs : List Firing) (x : Marking) → Alike a b → Path n b fs x → Path n a fs x
   path-from a b [] x e p = ((λ c h. e c h ∙ p.0 c h), p.1)
@@ -62,16 +58,20 @@ module _ (n : SystemNet) where
   -- each part of a firing is a proposition
   firing : (t : ℕ) (m : List ℕ) (a b : Marking) → ∥ Fires n t m a b ∥₁ → Fires n t m a b
   firing t m a b p = record {
-    there = ∥∥₁_elim p le_prop (λ f. f.there);
-    four = ∥∥₁_elim p (ℕ_set _ _) (λ f. f.four);
-    mode = record {
-      first = ∥∥₁_elim p le_prop (λ f. f.mode.first);
-      second = ∥∥₁_elim p le_prop (λ f. f.mode.second);
-      third = ∥∥₁_elim p le_prop (λ f. f.mode.third);
-      fourth = ∥∥₁_elim p le_prop (λ f. f.mode.fourth);
+    enabled = record {
+      is_open = record {
+        there = ∥∥₁_elim p le_prop (λ f. f.enabled.is_open.there);
+        mode = record {
+          four = ∥∥₁_elim p (ℕ_set _ _) (λ f. f.enabled.is_open.mode.four);
+          first = ∥∥₁_elim p le_prop (λ f. f.enabled.is_open.mode.first);
+          second = ∥∥₁_elim p le_prop (λ f. f.enabled.is_open.mode.second);
+          third = ∥∥₁_elim p le_prop (λ f. f.enabled.is_open.mode.third);
+          fourth = ∥∥₁_elim p le_prop (λ f. f.enabled.is_open.mode.fourth);
+        };
+        guard = ∥∥₁_elim p (Bool-set _ _) (λ f. f.enabled.is_open.guard);
+      };
+      enough = λ c h. ∥∥₁_elim p le_prop (λ f. f.enabled.enough c h);
     };
-    guard = ∥∥₁_elim p (Bool-set _ _) (λ f. f.guard);
-    enough = λ c h. ∥∥₁_elim p le_prop (λ f. f.enough c h);
     new = λ c h. ∥∥₁_elim p (ℕ_set _ _) (λ f. f.new c h);
   }
 

@@ -1,5 +1,5 @@
 -- What the calls of a bench make of the memory that a caller lends, and why they are refused.
-use Rattle.std.specs.Prelude.{◌≡◌, ℕ, min, ◌+◌, ◌-◌, ◌^◌, ◌<◌, ◌≤◌, true, false, List, [], ◌∷◌, ◌++◌, length, Ok, Err, Result, slice_index, slice_set}
+use Rattle.std.specs.Prelude.{◌≡◌, ℕ, min, ◌+◌, ◌-◌, ◌^◌, ◌<◌, ◌≤◌, false, List, [], ◌∷◌, ◌++◌, length, Ok, Err, Result, slice_index, slice_set}
 use Rattle.lent.specs.Held.{held, memory as whole}
 use Rattle.lent.specs.declared.list.LentList.{LentList}
 use Rattle.term.specs.Worth.{Marking}
@@ -8,7 +8,7 @@ use Rattle.term.specs.declared.fault.Fault.TheVariants as fault
 use Rattle.net.specs.declared.firing.Firing.{Firing}
 use Rattle.net.specs.System.{SystemNet, cells}
 use Rattle.net.specs.Nets.{HasCell, Mode, given, guard_holds, taken, transition}
-use Rattle.net.specs.Runs.{Alike, Fires, initial}
+use Rattle.net.specs.Runs.{Alike, Enabled, Fires, Open, initial}
 use Rattle.bench.specs.Counted.{changed, tokens}
 use Rattle.bench.specs.declared.change.Change.{Change}
 use Rattle.bench.specs.declared.counts.Counts.{Counts}
@@ -56,25 +56,14 @@ Lacking n f a c = a c < taken n f.transition f.mode c
 abbrev pub Passing : SystemNet → Firing → Marking → ℕ → Type 0
 Passing n f a c = 65535 < (a c - taken n f.transition f.mode c) + given n f.transition f.mode c
 
--- the net has the transition, the firing's numbers are a mode of it, and the guard is true there
-pub record Open (n : SystemNet) (f : Firing) : Type 0 where
-  pub there : f.transition < length n.transitions
-  pub mode : Mode (transition n f.transition).sizes f.mode
-  pub guard : guard_holds n f.transition f.mode ≡ true
-
 -- whether the net allows a firing, whatever the marking
 abbrev pub Opened : SystemNet → Firing → Result (Unit {0}) Fault → Type 0
-Opened n f (Ok u) = Open n f
+Opened n f (Ok u) = Open n f.transition f.mode
 Opened n f (Err fault.NoTransition) = length n.transitions ≤ f.transition
 Opened n f (Err fault.Mode) = (f.transition < length n.transitions) × (Mode (transition n f.transition).sizes f.mode → ⊥)
 Opened n f (Err fault.Guard) =
     (f.transition < length n.transitions) × Mode (transition n f.transition).sizes f.mode × (guard_holds n f.transition f.mode ≡ false)
 Opened n f (Err e) = ⊥
-
--- no cell lacks tokens for the firing, and none would pass 65,535
-pub record Roomy (n : SystemNet) (f : Firing) (a : Marking) : Type 0 where
-  pub enough : Nowhere (Lacking n f a)
-  pub room : Nowhere (Passing n f a)
 
 -- a firing carried out, from the memory l to k: the marking becomes the new one of the firing, and the firing is written
 -- behind the others
@@ -85,9 +74,10 @@ pub record Fired (n : SystemNet) (f : Firing) (l k : Lent) : Type 0 where
 
 -- why a firing is refused: the lowest cell counts, and each reason only where none before it holds
 abbrev pub FireRefused : SystemNet → Firing → Lent → Fault → Type 0
-FireRefused n f l (fault.Lacks c) = Open n f × Lowest (Lacking n f (marking l)) c
-FireRefused n f l (fault.Full c) = Open n f × Nowhere (Lacking n f (marking l)) × Lowest (Passing n f (marking l)) c
-FireRefused n f l fault.TrailFull = Open n f × Roomy n f (marking l) × (length l.trail ≡ length l.memory)
+FireRefused n f l (fault.Lacks c) = Open n f.transition f.mode × Lowest (Lacking n f (marking l)) c
+FireRefused n f l (fault.Full c) = Enabled n f.transition f.mode (marking l) × Lowest (Passing n f (marking l)) c
+FireRefused n f l fault.TrailFull =
+    Enabled n f.transition f.mode (marking l) × Nowhere (Passing n f (marking l)) × (length l.trail ≡ length l.memory)
 FireRefused n f l e = Opened n f (Err e)
 
 -- what a call of fire answers; a refused one changes nothing

@@ -54,6 +54,7 @@ mode_of ns i =
 
 -- a mode gives each of the four variables an element of its sort, 0 where there is no variable
 pub record Mode (ns m : List ℕ) : Type 0 where
+  pub four : length m ≡ 4
   pub first : slice_index m 0 < slice_index ns 0
   pub second : slice_index m 1 < slice_index ns 1
   pub third : slice_index m 2 < slice_index ns 2

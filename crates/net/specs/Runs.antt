@@ -9,13 +9,20 @@ use Rattle.net.specs.declared.firing.Firing.{Firing}
 abbrev pub Counted : List ℕ → Marking → Type 0
 Counted ns a = (c : ℕ) → c < cells → slice_index ns c ≡ a c
 
--- transition t fires in the mode m and leads from the marking a to b
-pub record Fires (n : SystemNet) (t : ℕ) (m : List ℕ) (a b : Marking) : Type 0 where
+-- the net has the transition t, m is a mode of it, and the guard is true there
+pub record Open (n : SystemNet) (t : ℕ) (m : List ℕ) : Type 0 where
   pub there : t < length n.transitions
-  pub four : length m ≡ 4
   pub mode : Mode (transition n t).sizes m
   pub guard : guard_holds n t m ≡ true
+
+-- transition t is enabled in the mode m at the marking a: it is open there, and each cell has what it takes
+pub record Enabled (n : SystemNet) (t : ℕ) (m : List ℕ) (a : Marking) : Type 0 where
+  pub is_open : Open n t m
   pub enough : (c : ℕ) → c < cells → taken n t m c ≤ a c
+
+-- transition t, enabled in the mode m at the marking a, fires and leads from a to b
+pub record Fires (n : SystemNet) (t : ℕ) (m : List ℕ) (a b : Marking) : Type 0 where
+  pub enabled : Enabled n t m a
   pub new : (c : ℕ) → c < cells → b c ≡ a c - taken n t m c + given n t m c
 
 -- two markings have the same in each cell
