@@ -1,5 +1,5 @@
 -- From what is counted cell by cell in memory to firings and their faults.
-use Rattle.std.proofs.Common.{◌≡◌, ℕ, min, ◌+◌, ◌-◌, ◌/◌, ◌%◌, ◌^◌, ◌<◌, ◌≤◌, Ok, Err, Result, get_or, refl, subst, ⊎_elim, arith}
+use Rattle.std.proofs.Common.{◌≡◌, ℕ, min, ◌+◌, ◌-◌, ◌/◌, ◌%◌, ◌<◌, ◌≤◌, Ok, Err, Result, get_or, refl, subst, ⊎_elim, arith}
 use Rattle.std.proofs.lemmas.Bool.{cases_lt}
 use Rattle.format.specs.Format.{place_size}
 use Rattle.format.specs.declared.command.Direction.TheVariants as direction
@@ -15,7 +15,7 @@ use Rattle.net.specs.Runs.{Bounded, Counted, Enabled, Fires, Open}
 use Rattle.net.specs.declared.net.Net.{Net}
 use Rattle.net.proofs.Every.{untouched}
 use Rattle.bench.specs.Calls.{Checked, FireCalled, FireRefused, Lacking, Lent, Lowest, Nowhere, Passing, lent, marking}
-use Rattle.bench.specs.Counted.{changed, tokens}
+use Rattle.bench.specs.Counted.{changed, largest_count, tokens}
 use Rattle.bench.specs.Path.{Holdable, Led, NeverFull, Small}
 use Rattle.bench.specs.declared.change.Change.{Change}
 use Rattle.bench.specs.declared.counts.Counts.{Counts}
@@ -38,7 +38,7 @@ module _ (n : SystemNet) (f : Firing) (k : Counts) (d : Change) (takes : Counted
   able : Open n f.transition f.mode → ((c : ℕ) → c < cells → get_or d.takes c 0 ≤ tokens k c) → Enabled n f.transition f.mode (tokens k)
   able o h = record { is_open = o; enough = λ c l. enough c l (h c l) }
 
-  none-passes : (c : ℕ) → c < cells → changed k d c < 2 ^ 16 → Passing n f (tokens k) c → ⊥
+  none-passes : (c : ℕ) → c < cells → changed k d c ≤ largest_count → Passing n f (tokens k) c → ⊥
   none-passes c l h p = let z = exact c l in omega (arith, z, p, h)
 
   passes : (c : ℕ) → Checked k d (Err (fault.Full c)) → Lowest (Passing n f (tokens k)) c
@@ -59,18 +59,18 @@ module _ (n : SystemNet) (f : Firing) (k : Counts) (d : Change) (takes : Counted
   refused l o (fault.Full c) h = (able o h.0, passes c h)
   refused l o e h = absurd h
 
-  pub fires : Open n f.transition f.mode → Checked k d (Ok _) → (b : Marking) → ((c : ℕ) → c < cells → changed k d c < 2 ^ 16 → b c ≡ changed k d c) → Fires n f.transition f.mode (tokens k) b
+  pub fires : Open n f.transition f.mode → Checked k d (Ok _) → (b : Marking) → ((c : ℕ) → c < cells → changed k d c ≤ largest_count → b c ≡ changed k d c) → Fires n f.transition f.mode (tokens k) b
   fires o h b new = record {
     enabled = enabled o h;
     new = λ c l. let z = exact c l in let y = new c l (h c l).1 in omega (arith, z, y);
   }
 
 -- what fits sixteen bits is exact where it is held at the largest number of these
-pub unheld : (k : Counts) (d : Change) (b : Marking) → ((c : ℕ) → c < cells → b c ≡ min (changed k d c) (2 ^ 16 - 1)) → (c : ℕ) → c < cells → changed k d c < 2 ^ 16 → b c ≡ changed k d c
+pub unheld : (k : Counts) (d : Change) (b : Marking) → ((c : ℕ) → c < cells → b c ≡ min (changed k d c) largest_count) → (c : ℕ) → c < cells → changed k d c ≤ largest_count → b c ≡ changed k d c
 unheld k d b new c l h = let e = new c l in omega (arith, e, h)
 
 -- once a change that was found to fit is made, the counts fit sixteen bits
-pub small-after : (k : Counts) (d : Change) → Checked k d (Ok _) → (b : Marking) → ((c : ℕ) → c < cells → changed k d c < 2 ^ 16 → b c ≡ changed k d c) → Small b
+pub small-after : (k : Counts) (d : Change) → Checked k d (Ok _) → (b : Marking) → ((c : ℕ) → c < cells → changed k d c ≤ largest_count → b c ≡ changed k d c) → Small b
 small-after k d h b new c l = let z = (h c l).1 in let y = new c l (h c l).1 in omega (arith, z, y)
 
 -- why a cell is found full, where the trail leads to the marking
@@ -79,7 +79,7 @@ module _ (net : Net) (f : Firing) (l : Lent) (p : Led (system net) l.trail (mark
   n = system net
 
   -- not where it has a bound that a bench can hold: held up by nothing else, the firing would lead within it
-  in-bounds : (k : ℕ) → k ≤ 65535 → Bounded n c k → ⊥
+  in-bounds : (k : ℕ) → k ≤ largest_count → Bounded n c k → ⊥
   in-bounds k most limit =
       let t = f.transition in
       let m = f.mode in

@@ -11,6 +11,7 @@ use Rattle.net.specs.Runs.{Alike, Enabled, Fires, Open, Run, initial}
 use Rattle.net.specs.System.{SystemNet, cells}
 use Rattle.net.specs.declared.firing.Firing.{Firing}
 use Rattle.bench.specs.Calls.{FireCalled, Lacking, Lent, Lowest, Nowhere, Passing, marking}
+use Rattle.bench.specs.Counted.{largest_count}
 use Rattle.worked.specs.Rows.{Answer, Leads, Replies, StandsAt, fire_shown, fired, refusal}
 use Rattle.worked.proofs.First.{IsFirst, first, first_is, order}
 use Rattle.worked.proofs.Verdicts.{Sound, both_true}
@@ -30,7 +31,7 @@ abbrev lacks : SystemNet → Firing → Marking → ℕ → Bool
 lacks n f x c = ltb (x c) (taken n f.transition f.mode c)
 
 abbrev passes : SystemNet → Firing → Marking → ℕ → Bool
-passes n f x c = ltb 65535 (next n f x c)
+passes n f x c = ltb largest_count (next n f x c)
 
 -- a marking found, unless a cell lacks tokens
 abbrev unless : {A : Type 0} → Option ℕ → Option A → Option A
