@@ -22,17 +22,17 @@ use Rattle.bench.specs.declared.counts.Counts.{Counts}
 use Rattle.bench.proofs.Walks.{reachable-next, small}
 
 module _ (n : SystemNet) (f : Firing) (k : Counts) (d : Change) (takes : Counted d.takes (taken n f.transition f.mode)) (puts : Counted d.puts (given n f.transition f.mode)) where
-  enough : (c : ℕ) → c < 1024 → get_or d.takes c 0 ≤ tokens k c → taken n f.transition f.mode c ≤ tokens k c
+  enough : (c : ℕ) → c < cells → get_or d.takes c 0 ≤ tokens k c → taken n f.transition f.mode c ≤ tokens k c
   enough c l h = let e = takes c l in omega (arith, e, h)
 
-  exact : (c : ℕ) → c < 1024 → changed k d c ≡ tokens k c - taken n f.transition f.mode c + given n f.transition f.mode c
+  exact : (c : ℕ) → c < cells → changed k d c ≡ tokens k c - taken n f.transition f.mode c + given n f.transition f.mode c
   exact c l = let e = takes c l in let g = puts c l in omega (arith, e, g)
 
   lacks : (c : ℕ) → Checked k d (Err (fault.Lacks c)) → Lowest (Lacking n f (tokens k)) c
   lacks c h = record {
     within = h.0;
     here = let e = takes c h.0 in let z = h.1 in omega (arith, e, z);
-    lower = λ i l p. let m : i < 1024 = omega (arith, l, h.0) in let z = enough i m (h.2 i l) in omega (arith, z, p);
+    lower = λ i l p. let m : i < cells = omega (arith, l, h.0) in let z = enough i m (h.2 i l) in omega (arith, z, p);
   }
 
   able : Open n f.transition f.mode → ((c : ℕ) → c < cells → get_or d.takes c 0 ≤ tokens k c) → Enabled n f.transition f.mode (tokens k)
@@ -45,7 +45,7 @@ module _ (n : SystemNet) (f : Firing) (k : Counts) (d : Change) (takes : Counted
   passes c h = record {
     within = h.1;
     here = let z = exact c h.1 in let y = h.2 in omega (arith, z, y);
-    lower = λ i l p. let m : i < 1024 = omega (arith, l, h.1) in none-passes i m (h.3 i l) p;
+    lower = λ i l p. let m : i < cells = omega (arith, l, h.1) in none-passes i m (h.3 i l) p;
   }
 
   pub enabled : Open n f.transition f.mode → Checked k d (Ok _) → Enabled n f.transition f.mode (tokens k)

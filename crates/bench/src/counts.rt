@@ -1,4 +1,5 @@
 ghost use Rattle.std.specs.Prelude.{◌≡◌, length};
+ghost use Rattle.net.specs.declared.net.TheConstants.{CELLS};
 
 pub mod methods;
 
@@ -7,5 +8,5 @@ pub mod methods;
 #[derive(Drop)]
 pub struct Counts<'c> {
     pub cells: &'c mut [u16],
-    ghost long: { length cells.now ≡ 1024 },
+    ghost long: { length cells.now ≡ CELLS },
 }

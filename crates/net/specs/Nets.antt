@@ -10,7 +10,7 @@ use Rattle.term.specs.Prefix.{bag_at, term_at}
 use Rattle.term.specs.Worth.{Marking, on_place}
 use Rattle.net.specs.declared.parts.Claim.{Claim}
 use Rattle.net.specs.Spans.{Arc, towards}
-use Rattle.net.specs.System.{SystemNet, Transition, no_transition}
+use Rattle.net.specs.System.{SystemNet, Transition, cells, no_transition}
 
 abbrev pub transition : SystemNet → ℕ → Transition
 transition n t = slice_index_or n.transitions t no_transition
@@ -74,7 +74,7 @@ ExactlyTallied before after m = (c : ℕ) → c < length before → slice_index 
 
 -- the cell stands for a place of the net and an element of that place's sort
 pub record HasCell (n : SystemNet) (cell : ℕ) : Type 0 where
-  pub within : cell < 1024
+  pub within : cell < cells
   pub element : cell % 64 < place_size n.sig.sizes n.places (cell / 64)
 
 abbrev pub no_claim : Claim
@@ -83,7 +83,7 @@ no_claim = record { kind = Equal; codes = [] }
 abbrev pub claim_of : SystemNet → ℕ → Claim
 claim_of n k = slice_index_or n.claims k no_claim
 
--- the codes of a claim, one for each of 1,024 cells
+-- the codes of a claim, one for each cell
 abbrev pub codes_of : SystemNet → ℕ → List ℤ
 codes_of n k = (claim_of n k).codes
 
