@@ -1,5 +1,5 @@
 -- Nets and what their transitions take and put.
-use Rattle.std.specs.Prelude.{◌≡◌, ℕ, ◌+◌, ◌-◌, ◌/◌, ◌%◌, ◌^◌, ◌<◌, min, Bool, true, cond, List, [], ◌∷◌, length, ℤ, ◌==◌, slice_index, slice_index_or, sum_by}
+use Rattle.std.specs.Prelude.{◌≡◌, ℕ, ◌+◌, ◌-◌, ◌*◌, ◌/◌, ◌%◌, ◌^◌, ◌<◌, min, Bool, true, cond, List, [], ◌∷◌, length, ℤ, ◌==◌, slice_index, slice_index_or, sum_by}
 use Rattle.std.specs.Option.{option_map_or}
 use Rattle.domain.specs.declared.kind.Kind.{Kind}
 use Rattle.domain.specs.declared.kind.Kind.TheVariants.{Equal}
@@ -66,7 +66,7 @@ Tallied before after m = (c : ℕ) → c < length before → slice_index after c
 
 -- at most how many tokens the arcs of a transition that go one way have in a cell: 255 for each 4 of 65,536 bytes
 abbrev pub largest_side : ℕ
-largest_side = 4177920
+largest_side = 255 * (65536 / 4)
 
 -- a marking is added to counts, exactly, where there is room for the largest side
 abbrev pub ExactlyTallied : List ℕ → List ℕ → Marking → Type 0
