@@ -1,4 +1,5 @@
 ghost use Rattle.std.specs.Prelude.{◌≡◌, length};
+ghost use Rattle.net.specs.declared.net.TheConstants.{CELLS};
 
 mod methods;
 
@@ -9,5 +10,5 @@ pub use methods::measure;
 #[derive(Drop)]
 pub struct Counts<'c> {
     pub cells: &'c mut [u16],
-    ghost long: { length cells.now ≡ 1024 },
+    ghost long: { length cells.now ≡ CELLS },
 }

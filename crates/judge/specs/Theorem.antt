@@ -5,6 +5,7 @@ use Rattle.term.specs.Worth.{Marking, value_of}
 use Rattle.net.specs.System.{SystemNet}
 use Rattle.net.specs.Nets.{taken}
 use Rattle.net.specs.Runs.{Fires, Run}
+use Rattle.net.specs.declared.firing.Firing.{Firing}
 use Rattle.judge.specs.Judged.{Verdict}
 
 module _ {V : Type 0} (d : Meaning V) (codes : List ℤ) (n : SystemNet) where
@@ -31,5 +32,5 @@ module _ {V : Type 0} (d : Meaning V) (codes : List ℤ) (n : SystemNet) where
 
   -- along every run of an accepted claim, the first value relates to the last
   abbrev pub Keeps : Verdict V → Type 0
-  Keeps (Ok c) = (a b : Marking) (fs : List (ℕ × List ℕ)) → Run n a fs b → d.rel (value_of d codes a) (value_of d codes b)
+  Keeps (Ok c) = (a b : Marking) (fs : List Firing) → Run n a fs b → d.rel (value_of d codes a) (value_of d codes b)
   Keeps (Err x) = Unit {0}

@@ -1,5 +1,5 @@
 -- Nets and what their transitions take and put.
-use Rattle.std.specs.Prelude.{◌≡◌, ℕ, ◌+◌, ◌-◌, ◌/◌, ◌%◌, ◌^◌, ◌<◌, min, Bool, true, cond, List, [], ◌∷◌, length, ℤ, ◌==◌, slice_index, slice_index_or, sum_by}
+use Rattle.std.specs.Prelude.{◌≡◌, ℕ, ◌+◌, ◌-◌, ◌*◌, ◌/◌, ◌%◌, ◌^◌, ◌<◌, min, Bool, true, cond, List, [], ◌∷◌, length, ℤ, ◌==◌, slice_index, slice_index_or, sum_by}
 use Rattle.std.specs.Option.{option_map_or}
 use Rattle.domain.specs.declared.kind.Kind.{Kind}
 use Rattle.domain.specs.declared.kind.Kind.TheVariants.{Equal}
@@ -10,7 +10,7 @@ use Rattle.term.specs.Prefix.{bag_at, term_at}
 use Rattle.term.specs.Worth.{Marking, on_place}
 use Rattle.net.specs.declared.parts.Claim.{Claim}
 use Rattle.net.specs.Spans.{Arc, towards}
-use Rattle.net.specs.System.{SystemNet, Transition, no_transition}
+use Rattle.net.specs.System.{SystemNet, Transition, cells, no_transition}
 
 abbrev pub transition : SystemNet → ℕ → Transition
 transition n t = slice_index_or n.transitions t no_transition
@@ -54,6 +54,7 @@ mode_of ns i =
 
 -- a mode gives each of the four variables an element of its sort, 0 where there is no variable
 pub record Mode (ns m : List ℕ) : Type 0 where
+  pub four : length m ≡ 4
   pub first : slice_index m 0 < slice_index ns 0
   pub second : slice_index m 1 < slice_index ns 1
   pub third : slice_index m 2 < slice_index ns 2
@@ -65,7 +66,7 @@ Tallied before after m = (c : ℕ) → c < length before → slice_index after c
 
 -- at most how many tokens the arcs of a transition that go one way have in a cell: 255 for each 4 of 65,536 bytes
 abbrev pub largest_side : ℕ
-largest_side = 4177920
+largest_side = 255 * (65536 / 4)
 
 -- a marking is added to counts, exactly, where there is room for the largest side
 abbrev pub ExactlyTallied : List ℕ → List ℕ → Marking → Type 0
@@ -73,7 +74,7 @@ ExactlyTallied before after m = (c : ℕ) → c < length before → slice_index 
 
 -- the cell stands for a place of the net and an element of that place's sort
 pub record HasCell (n : SystemNet) (cell : ℕ) : Type 0 where
-  pub within : cell < 1024
+  pub within : cell < cells
   pub element : cell % 64 < place_size n.sig.sizes n.places (cell / 64)
 
 abbrev pub no_claim : Claim
@@ -82,7 +83,7 @@ no_claim = record { kind = Equal; codes = [] }
 abbrev pub claim_of : SystemNet → ℕ → Claim
 claim_of n k = slice_index_or n.claims k no_claim
 
--- the codes of a claim, one for each of 1,024 cells
+-- the codes of a claim, one for each cell
 abbrev pub codes_of : SystemNet → ℕ → List ℤ
 codes_of n k = (claim_of n k).codes
 

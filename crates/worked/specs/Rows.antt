@@ -1,6 +1,6 @@
 -- Rows of worked examples: a file, what is asked of it, and the answer; and what such a row claims, by the definitions
 -- that the contracts of reading, judging, caps and firing name.
-use Rattle.std.specs.Prelude.{◌≡◌, ℕ, ◌<◌, List, length, map, Option, Some, None, Ok, Err, Result}
+use Rattle.std.specs.Prelude.{◌≡◌, ℕ, ◌<◌, List, length, Option, Some, None, Ok, Err, Result}
 use Rattle.domain.specs.declared.kind.Kind.{Kind}
 use Rattle.term.specs.Faults.{number_of}
 use Rattle.term.specs.Worth.{Marking}
@@ -9,14 +9,13 @@ use Rattle.term.specs.declared.fault.FileFault.{FileFault}
 use Rattle.term.specs.declared.fault.Stage.{Stage}
 use Rattle.net.specs.Nets.{IsKind}
 use Rattle.net.specs.Reading.{Told, arc_count, told}
-use Rattle.net.specs.Runs.{Run, initial}
+use Rattle.net.specs.Runs.{Alike, Run, initial}
 use Rattle.net.specs.System.{SystemNet}
 use Rattle.net.specs.declared.firing.Firing.{Firing}
 use Rattle.judge.specs.Calls.{Fits, Memory}
 use Rattle.judge.specs.Caps.{AskedByKind}
 use Rattle.judge.specs.Kinds.{ByKind, Outcome}
 use Rattle.bench.specs.Calls.{FireCalled, Lent, marking}
-use Rattle.bench.specs.Path.{Alike}
 
 -- what is asked: whether the file reads; the verdict on a claim; the cap of a cell by a claim; or what a firing does,
 -- after other firings from the initial marking
@@ -74,12 +73,9 @@ pub record Shows {R : Type 0} (C : Kind → Memory → Memory → Result R Fault
   pub some : (m : Memory) → Fits m → (x : Kind) × (IsKind n claim x × ((k : Memory) × ((r : Result R Fault) × (C x m k r × (a ≡ shown r)))))
   pub only : (x : Kind) (m k : Memory) (r : Result R Fault) → IsKind n claim x → Fits m → C x m k r → a ≡ shown r
 
-abbrev pub pair : Firing → ℕ × List ℕ
-pair f = (f.transition, f.mode)
-
 -- the firings lead, one after the other, from the initial marking to this one
 abbrev pub Leads : SystemNet → List Firing → Marking → Type 0
-Leads n fs x = Run n (initial n) (map pair fs) x
+Leads n fs x = Run n (initial n) fs x
 
 -- the memory of a bench that stands at a marking, with room on its trail
 pub record StandsAt (x : Marking) (l : Lent) : Type 0 where
