@@ -15,9 +15,9 @@ use Rattle.std.proofs.lemmas.List.{get_or_past}
 use Rattle.std.proofs.lemmas.Bool.{cases_lt}
 use Rattle.net.specs.Nets.{IsKind, claim_of, codes_of, no_claim}
 use Rattle.judge.specs.Calls.{AllWeigh, Called, Fits, Memory, SameLoans, lent}
-use Rattle.judge.specs.Kinds.{By, ByKind, Outcome, Weighed}
-use Rattle.judge.specs.Caps.{Asked, AskedByKind, Blind}
-use Rattle.judge.specs.Surveys.{ByItsKind}
+use Rattle.judge.specs.Kinds.{By, ByItsKind, ByKind, Outcome, Weighed}
+use Rattle.judge.specs.Caps.{Asked, AskedByItsKind, AskedByKind, Blind}
+
 use Rattle.judge.specs.declared.judging.Judge.{Judge}
 
 pub still_fits : (v w : Judge) → SameLoans v w → Fits (lent v) → Fits (lent w)
@@ -50,14 +50,17 @@ module _ (n : Net) (claim : ℕ) (m k : Memory) where
   kind_judged kind.Trap is r b = judged (turned siphon) N claim m k (λ c h. weights n claim c kind.Trap is h) r b
   kind_judged kind.Siphon is r b = judged siphon N claim m k (λ c h. weights n claim c kind.Siphon is h) r b
 
-  -- where there is no claim, none is found either
-  no_claims : {V : Type 0} (d : Meaning V) → length N.claims ≤ claim → AllWeigh d (codes_of N claim)
-  no_claims d h c l = let z = ap (λ (x : Claim). length x.codes) (get_or_past N.claims claim no_claim h) in absurd (omega arith)
+  -- a claim that is not there has the kind equal and no codes
+  missing : length N.claims ≤ claim → (claim_of N claim).kind ≡ kind.Equal
+  missing h = ap (λ (x : Claim). x.kind) (get_or_past N.claims claim no_claim h)
 
-  pub either_judged : (r : Result Outcome Fault) → ((x : Kind) → IsKind N claim x → ByKind x N claim m k r) → (length N.claims ≤ claim → By equal N claim m k r) → Weighed r
-  either_judged r kinds none = ⊎_elim
-      (λ (h : claim < length N.claims). let is = its_kind N claim h in kind_judged (claim_of N claim).kind is r (kinds (claim_of N claim).kind is))
-      (λ (h : length N.claims ≤ claim). judged equal N claim m k (no_claims equal h) r (none h))
+  no_codes : {V : Type 0} (d : Meaning V) → length N.claims ≤ claim → AllWeigh d (codes_of N claim)
+  no_codes d h c l = let z = ap (λ (x : Claim). length x.codes) (get_or_past N.claims claim no_claim h) in absurd (omega arith)
+
+  pub its_judged : (r : Result Outcome Fault) → ByItsKind N claim m k r → Weighed r
+  its_judged r b = ⊎_elim
+      (λ (h : claim < length N.claims). kind_judged (claim_of N claim).kind (its_kind N claim h) r b)
+      (λ (h : length N.claims ≤ claim). judged equal N claim m k (no_codes equal h) r (subst (λ (x : Kind). ByKind x N claim m k r) (missing h) b))
       (cases_lt claim (length N.claims))
 
   -- the same of caps
@@ -73,11 +76,10 @@ module _ (n : Net) (claim : ℕ) (m k : Memory) where
     kind_asked kind.Trap is r a = blind r a
     kind_asked kind.Siphon is r a = asked siphon N claim m k (λ c h. weights n claim c kind.Siphon is h) (λ v. Unit {0}) cell r a
 
-    pub either_asked : (r : Result (Option ℕ) Fault) → ((x : Kind) → IsKind N claim x → AskedByKind x N claim cell m k r)
-        → (length N.claims ≤ claim → Asked equal (λ v. pos 0 ≤ℤ v) N claim cell m k r) → Weighed r
-    either_asked r kinds none = ⊎_elim
-        (λ (h : claim < length N.claims). let is = its_kind N claim h in kind_asked (claim_of N claim).kind is r (kinds (claim_of N claim).kind is))
-        (λ (h : length N.claims ≤ claim). asked equal N claim m k (no_claims equal h) (λ v. pos 0 ≤ℤ v) cell r (none h))
+    pub its_asked : (r : Result (Option ℕ) Fault) → AskedByItsKind N claim cell m k r → Weighed r
+    its_asked r a = ⊎_elim
+        (λ (h : claim < length N.claims). kind_asked (claim_of N claim).kind (its_kind N claim h) r a)
+        (λ (h : length N.claims ≤ claim). asked equal N claim m k (no_codes equal h) (λ v. pos 0 ≤ℤ v) cell r (subst (λ (x : Kind). AskedByKind x N claim cell m k r) (missing h) a))
         (cases_lt claim (length N.claims))
 
 -- on memory that fits, judging a claim of the net by kind is refused for no other reason
@@ -98,7 +100,3 @@ module _ (n : SystemNet) (claim : ℕ) (m k : Memory) (fits : Fits m) (there : c
 
   pub refused : (e : Fault) → ByItsKind n claim m k (Err e) → Weighed {A = Outcome} (Err e) → ⊥
   refused e b w = w (ap (λ (x : Fault). Err x) (by_kind (claim_of n claim).kind e b))
-
--- a claim that is judged for every kind that it has is judged by its kind
-pub by_its_kind : (n : SystemNet) (claim : ℕ) (m k : Memory) (r : Result Outcome Fault) → claim < length n.claims → ((x : Kind) → IsKind n claim x → ByKind x n claim m k r) → ByItsKind n claim m k r
-by_its_kind n claim m k r there b = b (claim_of n claim).kind (its_kind n claim there)

@@ -6,8 +6,8 @@ use Rattle.lent.specs.Held.{held, memory}
 use Rattle.lent.specs.declared.list.LentList.{LentList}
 use Rattle.net.specs.System.{SystemNet}
 use Rattle.judge.specs.Calls.{Memory}
-use Rattle.judge.specs.Kinds.{Outcome}
-use Rattle.judge.specs.Surveys.{Answers, Added, ByItsKind, Judges, Noted, Ready}
+use Rattle.judge.specs.Kinds.{ByItsKind, Outcome}
+use Rattle.judge.specs.Surveys.{Answers, Added, Judges, Noted, Ready}
 
 longer : (xs ys : List Outcome) (o : Outcome) → ys ≡ xs ++ o ∷ [] → length ys ≡ length xs + 1
 longer xs ys o e = ap length e ∙ length-append xs (o ∷ [])

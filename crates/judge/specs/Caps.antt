@@ -10,7 +10,7 @@ use Rattle.term.specs.Worth.{value_of, weight_of}
 use Rattle.term.specs.declared.fault.Fault.{Fault}
 use Rattle.term.specs.declared.fault.Fault.TheVariants as fault
 use Rattle.net.specs.System.{SystemNet}
-use Rattle.net.specs.Nets.{HasCell, codes_of}
+use Rattle.net.specs.Nets.{HasCell, claim_of, codes_of}
 use Rattle.net.specs.Runs.{Bounded, initial}
 use Rattle.judge.specs.declared.verdict.Breach.{Breach}
 use Rattle.judge.specs.Calls.{AllWeigh, Begun, Called, Fits, Memory}
@@ -52,6 +52,10 @@ AskedByKind kind.Equal n claim cell m k r = Asked equal (λ v. pos 0 ≤ℤ v) n
 AskedByKind kind.NeverRises n claim cell m k r = Asked never_rises (λ v. pos 0 ≤ℤ v) n claim cell m k r
 AskedByKind kind.Siphon n claim cell m k r = Asked siphon (λ v. Unit {0}) n claim cell m k r
 AskedByKind x n claim cell m k r = Blind n claim cell m k r
+
+-- asking for a cap by the kind that the claim has
+abbrev pub AskedByItsKind : SystemNet → ℕ → ℕ → Memory → Memory → Result (Option ℕ) Fault → Type 0
+AskedByItsKind n claim cell m k r = AskedByKind (claim_of n claim).kind n claim cell m k r
 
 -- a number answered is a bound of the cell in every marking that can be reached
 abbrev pub Limits : SystemNet → ℕ → Result (Option ℕ) Fault → Type 0

@@ -7,6 +7,7 @@ use Rattle.domain.specs.declared.kind.Kind.TheVariants as kind
 use Rattle.term.specs.declared.fault.Fault.{Fault}
 use Rattle.term.specs.declared.fault.Fault.TheVariants as fault
 use Rattle.net.specs.System.{SystemNet}
+use Rattle.net.specs.Nets.{claim_of}
 use Rattle.net.specs.declared.firing.Firing.{Firing}
 use Rattle.judge.specs.Calls.{Called, Memory}
 
@@ -31,3 +32,7 @@ ByKind kind.NeverFalls n claim m k r = By (turned never_rises) n claim m k r
 ByKind (kind.Modulo x) n claim m k r = By (modulo x.k) n claim m k r
 ByKind kind.Trap n claim m k r = By (turned siphon) n claim m k r
 ByKind kind.Siphon n claim m k r = By siphon n claim m k r
+
+-- judging a claim by the kind that it has; one that the net does not have is refused under any kind
+abbrev pub ByItsKind : SystemNet → ℕ → Memory → Memory → Result Outcome Fault → Type 0
+ByItsKind n claim m k r = ByKind (claim_of n claim).kind n claim m k r

@@ -5,13 +5,8 @@ use Rattle.lent.specs.declared.list.LentList.{LentList}
 use Rattle.term.specs.declared.fault.Fault.{Fault}
 use Rattle.term.specs.declared.fault.Fault.TheVariants as fault
 use Rattle.net.specs.System.{SystemNet}
-use Rattle.net.specs.Nets.{claim_of}
 use Rattle.judge.specs.Calls.{Fits, Memory}
-use Rattle.judge.specs.Kinds.{ByKind, Outcome}
-
--- judging a claim by the kind that it has
-abbrev pub ByItsKind : SystemNet → ℕ → Memory → Memory → Result Outcome Fault → Type 0
-ByItsKind n claim m k r = ByKind (claim_of n claim).kind n claim m k r
+use Rattle.judge.specs.Kinds.{ByItsKind, Outcome}
 
 -- judging the first c claims leads from the memory m to the memory k, with these outcomes
 unfoldable pub Judges : SystemNet → Memory → ℕ → Memory → List Outcome → Type 0

@@ -1,10 +1,8 @@
-ghost use Rattle.std.specs.Prelude.{◌≡◌, ◌≤◌, pos, ◌≤ℤ◌, length};
-ghost use Rattle.domain.specs.Domains.{equal};
-ghost use Rattle.net.specs.Nets.{IsKind};
+ghost use Rattle.std.specs.Prelude.{◌≡◌};
 ghost use Rattle.lent.specs.Held.{loan};
 ghost use Rattle.judge.specs.Calls.{SameLoans, lent, net_of};
-ghost use Rattle.judge.specs.Caps.{Asked, AskedByKind, Limits};
-ghost use Rattle.judge.specs.Kinds.{By, ByKind, Weighed};
+ghost use Rattle.judge.specs.Caps.{AskedByItsKind, Limits};
+ghost use Rattle.judge.specs.Kinds.{By, ByItsKind, Weighed};
 ghost use Rattle.judge.specs.Surveys.{Surveyed};
 
 use crate::judging::Judge;
@@ -28,8 +26,7 @@ impl<'n, 'm> Judge<'n, 'm> {
 
     // Judges a claim by its kind.
     pub fn judge_by_kind(&mut self, claim: usize) -> Result<Outcome, Fault>
-        ensures kinds { (k : Kind) → IsKind (net_of self.old) claim k → ByKind k (net_of self.old) claim (lent self.old) (lent self.new) result }
-        ensures none { length (net_of self.old).claims ≤ claim → By equal (net_of self.old) claim (lent self.old) (lent self.new) result }
+        ensures called { ByItsKind (net_of self.old) claim (lent self.old) (lent self.new) result }
         ensures weighed { Weighed result }
         ensures same { SameLoans self.old self.new }
     {
@@ -46,8 +43,7 @@ impl<'n, 'm> Judge<'n, 'm> {
     // The cap of a cell by a claim's kind. Kinds that do not measure have none: those that do must each name the type
     // of their domain.
     pub fn cap_by_kind(&mut self, claim: usize, cell: usize) -> Result<Option<u64>, Fault>
-        ensures kinds { (k : Kind) → IsKind (net_of self.old) claim k → AskedByKind k (net_of self.old) claim cell (lent self.old) (lent self.new) result }
-        ensures none { length (net_of self.old).claims ≤ claim → Asked equal (λ v. pos 0 ≤ℤ v) (net_of self.old) claim cell (lent self.old) (lent self.new) result }
+        ensures called { AskedByItsKind (net_of self.old) claim cell (lent self.old) (lent self.new) result }
         ensures weighed { Weighed result }
         ensures limits { Limits (net_of self.old) cell result }
         ensures same { SameLoans self.old self.new }

@@ -13,7 +13,7 @@ use Rattle.net.specs.Nets.{claim_of, codes_of, given, taken}
 use Rattle.net.specs.System.{SystemNet}
 use Rattle.judge.specs.Calls.{AllWeigh, Called, Fits, Left, Memory, none}
 use Rattle.judge.specs.Judged.{Judged, Verdict}
-use Rattle.judge.specs.Kinds.{By, ByKind, Outcome}
+use Rattle.judge.specs.Kinds.{By, ByItsKind, ByKind, Outcome}
 use Rattle.judge.proofs.Markings.{exactly, keeps, right}
 use Rattle.worked.specs.Rows.{Answer, Shows, verdict_shown}
 use Rattle.worked.proofs.Decided.{Values, domain_of, laws_of, related, related_tells}
@@ -131,19 +131,19 @@ by_kind (kind.Modulo z) n claim m k r = refl
 by_kind kind.Trap n claim m k r = refl
 by_kind kind.Siphon n claim m k r = refl
 
--- a contract that is D for the claim's kind: the answer is that of a result which D allows, where all that D allows show it
-pub shows : {R : Type 0} (C : Kind → Memory → Memory → Result R Fault → Type 0) (shown : Result R Fault → Answer) (n : SystemNet) (claim : ℕ) → claim < length n.claims
-    → (D : Memory → Memory → Result R Fault → Type 0) → ((m k : Memory) (r : Result R Fault) → C (kind_at n claim) m k r ≡ D m k r)
+-- a contract that is D: the answer is that of a result which D allows, where all that D allows show it
+pub shows : {R : Type 0} (C : Memory → Memory → Result R Fault → Type 0) (shown : Result R Fault → Answer)
+    → (D : Memory → Memory → Result R Fault → Type 0) → ((m k : Memory) (r : Result R Fault) → C m k r ≡ D m k r)
     → (r : Result R Fault) → ((m : Memory) → Fits m → (k : Memory) × D m k r) → ((m k : Memory) (s : Result R Fault) → Fits m → D m k s → shown r ≡ shown s)
-    → Shows C shown n claim (shown r)
-shows C shown n claim there D same r some only = record {
-  some = λ m fits. let k = some m fits in (kind_at n claim, (record { there = there; is = refl }, (k.0, (r, (transport (sym (same m k.0 r)) k.1, refl)))));
-  only = λ y m k s is fits c. only m k s fits (transport (same m k s) (subst (λ (z : Kind). C z m k s) is.is c));
+    → Shows C shown (shown r)
+shows C shown D same r some only = record {
+  some = λ m fits. let k = some m fits in (k.0, (r, (transport (sym (same m k.0 r)) k.1, refl)));
+  only = λ m k s fits c. only m k s fits (transport (same m k s) c);
 }
 
 -- what a claim's answer is to be
 abbrev pub Judging : SystemNet → ℕ → Answer → Type 0
-Judging n claim a = Shows (λ x m k r. ByKind x n claim m k r) verdict_shown n claim a
+Judging n claim a = Shows (λ m k r. ByItsKind n claim m k r) verdict_shown a
 
 -- the answer computed is the answer
 pub judging_sound : (n : SystemNet) (claim : ℕ) → Sound (Judging n claim) (judging n claim)
@@ -155,7 +155,7 @@ judging_sound n claim = by_claim (ltb claim (length n.claims)) refl
         let v = verdict_by n claim x in
         let j = verdict_judged n claim x in
         let f = weights_are n claim x e in
-        shows (λ z m k r. ByKind z n claim m k r) verdict_shown n claim h (λ m k r. By (domain_of x) n claim m k r)
+        shows (λ m k r. ByItsKind n claim m k r) verdict_shown (λ m k r. By (domain_of x) n claim m k r)
         (λ m k r. ap (λ (z : Kind). ByKind z n claim m k r) (sym is) ∙ by_kind x n claim m k r)
         (Ok (outcome_of v))
         (λ m fits. by_some (laws_of x) n claim h f.0 f.1 v j m fits)
