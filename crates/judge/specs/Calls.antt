@@ -9,7 +9,7 @@ use Rattle.net.specs.System.{SystemNet}
 use Rattle.net.specs.Nets.{codes_of, given, taken}
 use Rattle.net.specs.Runs.{Counted}
 use Rattle.judge.specs.Judged.{Judged, Verdict}
-use Rattle.judge.specs.Theorem.{Exactly, Keeps, Right}
+use Rattle.judge.specs.Theorem.{Exactly, Keeps}
 use Rattle.judge.specs.declared.judging.Judge.{Judge}
 
 -- memory for 1,024 codes and twice 1,024 counts
@@ -33,7 +33,6 @@ AllWeigh d codes = (c : ℕ) → c < length codes → d.weighs (slice_index_or c
 -- what judging the codes in memory answers: the verdict defined, right for every marking and every run
 pub record VerdictOn {V : Type 0} (d : Meaning V) (codes : List ℤ) (n : SystemNet) (r : Verdict V) (b a : List ℕ) : Type 0 where
   pub judged : Judged d codes n r
-  pub right : Right d codes n r
   pub exactly : Exactly d codes n r
   pub keeps : Keeps d codes n r
   pub left : Left n r b a

@@ -14,7 +14,7 @@ use Rattle.net.specs.System.{SystemNet}
 use Rattle.judge.specs.Calls.{AllWeigh, Called, Fits, Left, Memory, none}
 use Rattle.judge.specs.Judged.{Judged, Verdict}
 use Rattle.judge.specs.Kinds.{By, ByItsKind, ByKind, Outcome}
-use Rattle.judge.proofs.Markings.{exactly, keeps, right}
+use Rattle.judge.proofs.Markings.{exactly, keeps}
 use Rattle.worked.specs.Rows.{Answer, Shows, verdict_shown}
 use Rattle.worked.proofs.Decided.{Values, domain_of, laws_of, related, related_tells}
 use Rattle.worked.proofs.Judging.{judged, only_one, verdict, outcome_of}
@@ -83,7 +83,6 @@ module _ {V : Type 0} {d : Meaning V} (laws : Laws d) (n : SystemNet) (claim : â
   -- the call can answer the verdict
   pub called : (k : Memory) Ã— Called d n claim m k (Ok v)
   called =
-      let so = right laws (codes_of n claim) long n v j in
       let a = left n v in (
         record { codes = codes_of n claim; before = a.0; after = a.1.0 },
         (
@@ -91,7 +90,7 @@ module _ {V : Type 0} {d : Meaning V} (laws : Laws d) (n : SystemNet) (claim : â
           there,
           refl,
           all,
-          record { judged = j; right = so; exactly = exactly laws (codes_of n claim) long n v so; keeps = keeps laws (codes_of n claim) long n v j; left = a.1.1 },
+          record { judged = j; exactly = exactly laws (codes_of n claim) long n v j; keeps = keeps laws (codes_of n claim) long n v j; left = a.1.1 },
         ),
       )
 
