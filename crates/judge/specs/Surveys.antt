@@ -1,5 +1,5 @@
 -- Surveys: all claims judged by their kinds, one after the other, onto a sheet; or why not.
-use Rattle.std.specs.Prelude.{◌≡◌, ℕ, zero, suc, ◌+◌, ◌<◌, ◌≤◌, List, [], ◌∷◌, ◌++◌, length, drop, Ok, Err, Result, slice_index_or}
+use Rattle.std.specs.Prelude.{◌≡◌, ℕ, zero, suc, ◌+◌, ◌<◌, ◌≤◌, List, [], ◌∷◌, ◌++◌, length, drop, Ok, Err, Result}
 use Rattle.lent.specs.Held.{held, memory}
 use Rattle.lent.specs.declared.list.LentList.{LentList}
 use Rattle.term.specs.declared.fault.Fault.{Fault}
@@ -19,15 +19,10 @@ pub record Noted (s t : LentList Outcome) (os : List Outcome) : Type 0 where
   pub long : length (memory t) ≡ length (memory s)
   pub rest : drop (length (held t)) (memory t) ≡ drop (length (held t)) (memory s)
 
--- the outcome of a claim by its kind, judged from some memory
-abbrev pub Answers : SystemNet → ℕ → Outcome → Type 0
-Answers n claim o = (a : Memory) × ((b : Memory) × ByItsKind n claim a b (Ok o))
-
--- the first c claims are judged onto the sheet, an outcome for each
+-- the first c claims are judged onto the sheet, with an outcome for each
 pub record Added (n : SystemNet) (m k : Memory) (s t : LentList Outcome) (c : ℕ) : Type 0 where
   pub outcomes : List Outcome
   pub judged : Judges n m c k outcomes
-  pub each : (i : ℕ) (x : Outcome) → i < c → Answers n i (slice_index_or outcomes i x)
   pub noted : Noted s t outcomes
 
 -- the memory has the stated lengths, and the sheet has room for all claims
