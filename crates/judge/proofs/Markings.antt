@@ -4,9 +4,9 @@ use Rattle.domain.specs.Meaning.{Laws, Meaning}
 use Rattle.term.specs.Worth.{Marking, value_of}
 use Rattle.term.proofs.Sums.{value_add, value_holds, value_same}
 use Rattle.net.specs.System.{SystemNet}
-use Rattle.net.specs.Nets.{Mode, given, guard_holds, taken, transition}
+use Rattle.net.specs.Nets.{Mode, given, guard_holds, mode, modes_of, taken, transition}
 use Rattle.net.specs.Runs.{Fires, Run}
-use Rattle.judge.specs.Judged.{First, Judged, Kept, KeptAll, Verdict, after, before, mode, modes_of}
+use Rattle.judge.specs.Judged.{First, Judged, Kept, KeptAll, Verdict, after, before}
 use Rattle.judge.specs.Theorem.{BreaksAt, Exactly, Keeps}
 use Rattle.judge.proofs.Orders.{is_mode, numbered}
 

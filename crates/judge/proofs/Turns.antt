@@ -7,8 +7,8 @@ use Rattle.net.specs.Of.{system}
 use Rattle.net.specs.System.{SystemNet, no_transition}
 use Rattle.net.specs.declared.net.Net.{Net}
 use Rattle.net.proofs.Every.{modes_in_all}
-use Rattle.net.specs.Nets.{guard_holds}
-use Rattle.judge.specs.Judged.{Kept, KeptAll, after, before, firing, mode, modes_of, number}
+use Rattle.net.specs.Nets.{guard_holds, mode, modes_of}
+use Rattle.judge.specs.Judged.{Kept, KeptAll, after, before, firing, number}
 
 pub firing_none : (n : SystemNet) (t : ℕ) → 0 ≡ firing n t 0
 unfolding firing

@@ -1,22 +1,14 @@
 -- What judging answers: the verdict, the first mode that breaks a claim, and the number of modes.
 use Rattle.std.specs.Prelude.{◌≡◌, ℕ, zero, suc, ◌+◌, ◌<◌, true, cond, List, length, ℤ, Ok, Err, Result}
 use Rattle.domain.specs.Meaning.{Meaning}
-use Rattle.format.specs.Format.{mode_count}
 use Rattle.term.specs.Worth.{value_of}
 use Rattle.net.specs.System.{SystemNet}
-use Rattle.net.specs.Nets.{given, guard_holds, mode_of, taken, transition}
+use Rattle.net.specs.Nets.{given, guard_holds, mode, modes_of, taken}
 use Rattle.judge.specs.declared.verdict.Breach.{Breach}
 
 -- the number of modes with a true guard, or how the claim breaks
 abbrev pub Verdict : Type 0 → Type 0
 Verdict V = Result ℕ (Breach V)
-
--- how many modes a transition has, and the mode of a number, the first variable slowest
-abbrev pub modes_of : SystemNet → ℕ → ℕ
-modes_of n t = mode_count (transition n t).sizes
-
-abbrev pub mode : SystemNet → ℕ → ℕ → List ℕ
-mode n t i = mode_of (transition n t).sizes i
 
 -- how many of the first i modes have a true guard
 unfoldable pub firing : SystemNet → ℕ → ℕ → ℕ

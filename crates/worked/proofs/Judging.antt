@@ -1,9 +1,9 @@
 -- Judging, computed: the verdict is one that the relation has, and every verdict that it has shows the same answer.
 use Rattle.std.proofs.Common.{◌≡◌, ℕ, zero, suc, ◌+◌, ◌<◌, Bool, true, false, not, ◌&&◌, List, length, ℤ, Some, None, Ok, Err, Option, sym, refl, ap, ◌∙◌, subst, true≢false, add-one, arith, below_more}
 use Rattle.domain.specs.Meaning.{Laws, Meaning, Tells}
-use Rattle.net.specs.Nets.{given, guard_holds, taken}
+use Rattle.net.specs.Nets.{given, guard_holds, mode, modes_of, taken}
 use Rattle.net.specs.System.{SystemNet}
-use Rattle.judge.specs.Judged.{First, Judged, Kept, KeptAll, Verdict, after, before, firing, mode, modes_of, number}
+use Rattle.judge.specs.Judged.{First, Judged, Kept, KeptAll, Verdict, after, before, firing, number}
 use Rattle.judge.specs.Kinds.{Outcome}
 use Rattle.judge.specs.declared.verdict.Breach.{Breach}
 use Rattle.worked.specs.Rows.{broken, verdict_shown}
