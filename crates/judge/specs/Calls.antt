@@ -12,12 +12,6 @@ use Rattle.judge.specs.Judged.{Judged, Verdict}
 use Rattle.judge.specs.Theorem.{Exactly, Keeps}
 use Rattle.judge.specs.declared.judging.Judge.{Judge}
 
--- memory for 1,024 codes and twice 1,024 counts
-pub record Measured (codes : List ℤ) (before after : List ℕ) : Type 0 where
-  pub codes_long : length codes ≡ 1024
-  pub before_long : length before ≡ 1024
-  pub after_long : length after ≡ 1024
-
 abbrev pub none : List ℕ
 none = replicate 1024 0
 
@@ -51,8 +45,11 @@ net_of w = system w.net.now
 abbrev pub lent : Judge → Memory
 lent w = record { codes = w.codes.now; before = w.before.now; after = w.after.now }
 
-abbrev pub Fits : Memory → Type 0
-Fits m = Measured m.codes m.before m.after
+-- memory for 1,024 codes and twice 1,024 counts
+pub record Fits (m : Memory) : Type 0 where
+  pub codes_long : length m.codes ≡ 1024
+  pub before_long : length m.before ≡ 1024
+  pub after_long : length m.after ≡ 1024
 
 -- the same loan as before, of the same length: its owner gets back what was written there
 pub record SameLoan {A : Type 0} (v w : MutBor (List A)) : Type 0 where
