@@ -87,7 +87,7 @@ module _ (n : SystemNet) (claim : ℕ) (m k : Memory) (fits : Fits m) (there : c
   by : {V : Type 0} (d : Meaning V) (e : Fault) → Called d n claim m k (Err e) → e ≡ fault.NoWeight
   by d fault.NoWeight c = refl
   by d fault.Memory c = absurd (c.0 fits)
-  by d fault.NoClaim c = let z = c.1 in absurd (omega arith)
+  by d fault.NoClaim c = let z = c.0.1 in absurd (omega arith)
   by d e c = absurd c
 
   by_kind : (x : Kind) (e : Fault) → ByKind x n claim m k (Err e) → e ≡ fault.NoWeight

@@ -74,8 +74,8 @@ Begun n claim m (Err e) = ⊥
 abbrev pub Called : {V : Type 0} → Meaning V → SystemNet → ℕ → Memory → Memory → Result (Verdict V) Fault → Type 0
 Called d n claim m k (Ok r) =
     Fits m × (claim < length n.claims) × (k.codes ≡ codes_of n claim) × AllWeigh d k.codes × VerdictOn d k.codes n r k.before k.after
-Called d n claim m k (Err fault.Memory) = (Fits m → ⊥) × (k ≡ m)
-Called d n claim m k (Err fault.NoClaim) = Fits m × (length n.claims ≤ claim) × (k ≡ m)
+Called d n claim m k (Err fault.Memory) = Begun n claim m (Err fault.Memory) × (k ≡ m)
+Called d n claim m k (Err fault.NoClaim) = Begun n claim m (Err fault.NoClaim) × (k ≡ m)
 Called d n claim m k (Err fault.NoWeight) =
     Fits m × (claim < length n.claims) × (k.codes ≡ codes_of n claim) × (AllWeigh d k.codes → ⊥) × (k.before ≡ m.before) × (k.after ≡ m.after)
 Called d n claim m k (Err e) = ⊥

@@ -33,7 +33,7 @@ BegunAt n claim cell m (Err e) = Begun n claim m (Err e)
 abbrev pub Asked : {V : Type 0} → Meaning V → (V → Type 0) → SystemNet → ℕ → ℕ → Memory → Memory → Result (Option ℕ) Fault → Type 0
 Asked d plain n claim cell m k (Ok most) =
     HasCell n cell × AllPlain d plain k.codes × ((c : ℕ) × Called d n claim m k (Ok (Ok c))) × CapIs d plain k.codes n cell most
-Asked d plain n claim cell m k (Err fault.NoCell) = Fits m × (claim < length n.claims) × (HasCell n cell → ⊥) × (k ≡ m)
+Asked d plain n claim cell m k (Err fault.NoCell) = BegunAt n claim cell m (Err fault.NoCell) × (k ≡ m)
 Asked d plain n claim cell m k (Err fault.NoWeight) = HasCell n cell × Called d n claim m k (Err fault.NoWeight)
 Asked d plain n claim cell m k (Err fault.NotPlain) =
     Fits m × (claim < length n.claims) × HasCell n cell × (k.codes ≡ codes_of n claim) × AllWeigh d k.codes × (AllPlain d plain k.codes → ⊥) × (k.before ≡ m.before) × (k.after ≡ m.after)

@@ -86,10 +86,10 @@ module _ {V : Type 0} (d : Meaning V) (p : V → Type 0) (n : SystemNet) (claim 
   case_of : claim < length n.claims → AllWeigh d (codes_of n claim) → AllPlain d p (codes_of n claim) → (m k : Memory) → Fits m → (r : Result (Option ℕ) Fault) → Asked d p n claim cell m k r → Case r
   case_of there all natural m k fits (Ok most) (h, _, (c, called), cap) =
       number h c (subst (λ (x : List ℤ). Judged d x n (Ok c)) called.2 called.4.judged) (subst (λ (x : List ℤ). CapIs d p x n cell most) called.2 cap)
-  case_of there all natural m k fits (Err fault.NoCell) a = no_cell a.2
+  case_of there all natural m k fits (Err fault.NoCell) a = no_cell a.0.2
   case_of there all natural m k fits (Err fault.NotAccepted) (h, _, (x, called)) = not_accepted h x (subst (λ (z : List ℤ). Judged d z n (Err x)) called.2 called.4.judged)
   case_of there all natural m k fits (Err fault.Memory) a = absurd (a.0 fits)
-  case_of there all natural m k fits (Err fault.NoClaim) a = let h = a.1 in absurd (omega arith)
+  case_of there all natural m k fits (Err fault.NoClaim) a = let h = a.0.1 in absurd (omega arith)
   case_of there all natural m k fits (Err fault.NoWeight) a = absurd (a.1.3 (subst (AllWeigh d) (sym a.1.2) all))
   case_of there all natural m k fits (Err fault.NotPlain) a = absurd (a.5 (subst (AllPlain d p) (sym a.3) natural))
   case_of there all natural m k fits (Err e) a = absurd a
@@ -197,7 +197,7 @@ module _ (n : SystemNet) (claim cell : ℕ) (there : claim < length n.claims) (x
 
     on_cell : (b : Bool) → Tells b (HasCell n cell) → Sound (Capping n claim cell) (cond b (by_verdict n claim cell x (verdict_by n claim x)) (Some (refusal fault.NoCell)))
     on_cell true h = on_verdict h (verdict_by n claim x) (verdict_judged n claim x)
-    on_cell false h = by_asked (Err fault.NoCell) (λ m fits. (m, (fits, there, h, refl))) (no_cell_only (domain_of x) (plain_of x) n claim cell h)
+    on_cell false h = by_asked (Err fault.NoCell) (λ m fits. (m, ((fits, there, h), refl))) (no_cell_only (domain_of x) (plain_of x) n claim cell h)
 
   -- by a kind that does not measure
   module _ (blinded : kind_measures x ≡ false) where

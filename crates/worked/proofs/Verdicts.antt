@@ -112,7 +112,7 @@ module _ {V : Type 0} {d : Meaning V} (laws : Laws d) (n : SystemNet) (claim : �
   -- and no fault
   never_refused : (k : Memory) (e : Fault) → Called d n claim m k (Err e) → ⊥
   never_refused k fault.Memory c = c.0 fits
-  never_refused k fault.NoClaim c = let h = c.1 in let z : ⊥ = omega arith in z
+  never_refused k fault.NoClaim c = let h = c.0.1 in let z : ⊥ = omega arith in z
   never_refused k fault.NoWeight c = c.3 (subst (AllWeigh d) (sym c.2) all)
   never_refused k e c = absurd c
 
