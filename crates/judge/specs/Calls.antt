@@ -5,7 +5,7 @@ use Rattle.domain.specs.Meaning.{Meaning}
 use Rattle.term.specs.declared.fault.Fault.{Fault}
 use Rattle.term.specs.declared.fault.Fault.TheVariants as fault
 use Rattle.net.specs.Of.{system}
-use Rattle.net.specs.System.{SystemNet}
+use Rattle.net.specs.System.{SystemNet, cells}
 use Rattle.net.specs.Nets.{codes_of, given, taken}
 use Rattle.net.specs.Runs.{Counted}
 use Rattle.judge.specs.Judged.{Judged, Verdict}
@@ -13,7 +13,7 @@ use Rattle.judge.specs.Theorem.{Exactly, Keeps}
 use Rattle.judge.specs.declared.judging.Judge.{Judge}
 
 abbrev pub none : List ℕ
-none = replicate 1024 0
+none = replicate cells 0
 
 -- the counts after judging: t− and t+ of the mode named if broken, else all 0
 abbrev pub Left : {V : Type 0} → SystemNet → Verdict V → List ℕ → List ℕ → Type 0
@@ -45,11 +45,11 @@ net_of w = system w.net.now
 abbrev pub lent : Judge → Memory
 lent w = record { codes = w.codes.now; before = w.before.now; after = w.after.now }
 
--- memory for 1,024 codes and twice 1,024 counts
+-- memory for a code of each cell, and for two counts of each
 pub record Fits (m : Memory) : Type 0 where
-  pub codes_long : length m.codes ≡ 1024
-  pub before_long : length m.before ≡ 1024
-  pub after_long : length m.after ≡ 1024
+  pub codes_long : length m.codes ≡ cells
+  pub before_long : length m.before ≡ cells
+  pub after_long : length m.after ≡ cells
 
 -- the same loan as before, of the same length: its owner gets back what was written there
 pub record SameLoan {A : Type 0} (v w : MutBor (List A)) : Type 0 where

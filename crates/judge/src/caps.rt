@@ -7,6 +7,7 @@ ghost use Rattle.judge.specs.Caps.{AllPlain, Asked, BegunAt, CapIs, Limits};
 
 use crate::judging::Judge;
 use domain::{Measuring, WeightDomain, add_weight};
+use net::CELLS;
 use term::Fault;
 
 impl<'n, 'm> Judge<'n, 'm> {
@@ -19,7 +20,7 @@ impl<'n, 'm> Judge<'n, 'm> {
 
     // The value of the initial marking. Its tokens are few enough that it stays below the largest sum.
     fn initial_value<D: WeightDomain>(&self, d: &D) -> D::Value
-        requires { length self.now.codes.now ≡ 1024 }
+        requires { length self.now.codes.now ≡ CELLS }
         ensures { result ≡ value_of (D.meaning d.now) self.now.codes.now (initial (net_of self.now)) }
     {
         let mut sum = d.zero();
@@ -31,8 +32,8 @@ impl<'n, 'm> Judge<'n, 'm> {
 
     // How many copies of a cell's weight the value of the initial marking has room for.
     fn room<M: Measuring>(&self, cell: usize, m: &M) -> Option<u64>
-        requires long { length self.now.codes.now ≡ 1024 }
-        requires cell { cell < 1024 }
+        requires long { length self.now.codes.now ≡ CELLS }
+        requires cell { cell < CELLS }
         requires plain { AllPlain (M.WeightDomain.meaning m.now) (M.plain m.now) self.now.codes.now }
         ensures { CapIs (M.WeightDomain.meaning m.now) (M.plain m.now) self.now.codes.now (net_of self.now) cell result }
     {
