@@ -11,14 +11,14 @@ abbrev pub Verdict : Type 0 → Type 0
 Verdict V = Result ℕ (Breach V)
 
 -- how many of the first i modes have a true guard
-unfoldable pub firing : SystemNet → ℕ → ℕ → ℕ
-firing n t zero = 0
-firing n t (suc i) = firing n t i + cond (guard_holds n t (mode n t i)) 1 0
+unfoldable pub true_modes : SystemNet → ℕ → ℕ → ℕ
+true_modes n t zero = 0
+true_modes n t (suc i) = true_modes n t i + cond (guard_holds n t (mode n t i)) 1 0
 
 -- how many modes of the first k transitions have a true guard
-unfoldable pub number : SystemNet → ℕ → ℕ
-number n zero = 0
-number n (suc k) = number n k + firing n k (modes_of n k)
+unfoldable pub true_modes_to : SystemNet → ℕ → ℕ
+true_modes_to n zero = 0
+true_modes_to n (suc k) = true_modes_to n k + true_modes n k (modes_of n k)
 
 module _ {V : Type 0} (d : Meaning V) (codes : List ℤ) (n : SystemNet) where
   -- the values of what a transition takes in a mode, and of what it puts
@@ -49,10 +49,10 @@ module _ {V : Type 0} (d : Meaning V) (codes : List ℤ) (n : SystemNet) where
 
   -- the answer for the transition k
   abbrev pub JudgedModes : ℕ → Verdict V → Type 0
-  JudgedModes k (Ok c) = (c ≡ firing n k (modes_of n k)) × Kept k (modes_of n k)
+  JudgedModes k (Ok c) = (c ≡ true_modes n k (modes_of n k)) × Kept k (modes_of n k)
   JudgedModes k (Err x) = (x.firing.transition ≡ k) × First k x.firing.mode x.before x.after
 
   -- the answer for all transitions
   abbrev pub Judged : Verdict V → Type 0
-  Judged (Ok c) = (c ≡ number n (length n.transitions)) × KeptAll (length n.transitions)
+  Judged (Ok c) = (c ≡ true_modes_to n (length n.transitions)) × KeptAll (length n.transitions)
   Judged (Err x) = (x.firing.transition < length n.transitions) × KeptAll x.firing.transition × First x.firing.transition x.firing.mode x.before x.after
