@@ -12,12 +12,13 @@ use Rattle.judge.specs.Judged.{Judged, Verdict}
 use Rattle.judge.specs.Theorem.{Exactly, Keeps}
 use Rattle.judge.specs.declared.judging.Judge.{Judge}
 
-abbrev pub none : List ℕ
-none = replicate cells 0
+-- the counts of a marking without tokens: 0 in every cell
+abbrev pub no_tokens : List ℕ
+no_tokens = replicate cells 0
 
 -- the counts after judging: t− and t+ of the mode named if broken, else all 0
 abbrev pub Left : {V : Type 0} → SystemNet → Verdict V → List ℕ → List ℕ → Type 0
-Left n (Ok c) b a = (b ≡ none) × (a ≡ none)
+Left n (Ok c) b a = (b ≡ no_tokens) × (a ≡ no_tokens)
 Left n (Err x) b a = Counted b (taken n x.firing.transition x.firing.mode) × Counted a (given n x.firing.transition x.firing.mode)
 
 -- every code is a weight

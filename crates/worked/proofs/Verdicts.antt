@@ -11,7 +11,7 @@ use Rattle.term.specs.declared.fault.Fault.{Fault}
 use Rattle.term.specs.declared.fault.Fault.TheVariants as fault
 use Rattle.net.specs.Nets.{claim_of, codes_of, given, taken}
 use Rattle.net.specs.System.{SystemNet}
-use Rattle.judge.specs.Calls.{AllWeigh, Called, Fits, Left, Memory, none}
+use Rattle.judge.specs.Calls.{AllWeigh, Called, Fits, Left, Memory, no_tokens}
 use Rattle.judge.specs.Judged.{Judged, Verdict}
 use Rattle.judge.specs.Kinds.{By, ByItsKind, ByKind, Outcome}
 use Rattle.judge.proofs.Markings.{exactly, keeps}
@@ -72,7 +72,7 @@ tallied k m c h = get_or-map-range_with_len m 0 k c c 0 h (zero-add c)
 
 -- what judging leaves in the counts
 left : {V : Type 0} (n : SystemNet) (v : Verdict V) → (b : List ℕ) × ((a : List ℕ) × Left n v b a)
-left n (Ok c) = (none, (none, (refl, refl)))
+left n (Ok c) = (no_tokens, (no_tokens, (refl, refl)))
 left n (Err x) =
     let t = taken n x.firing.transition x.firing.mode in
     let g = given n x.firing.transition x.firing.mode in
