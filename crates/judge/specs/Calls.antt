@@ -65,18 +65,18 @@ pub record SameLoans (v w : Judge) : Type 0 where
   pub after : SameLoan v.after w.after
 
 -- whether a call can begin: memory that fits, and a claim that the net has
-abbrev pub Begun : SystemNet → ℕ → Memory → Result (Unit {0}) Fault → Type 0
-Begun n claim m (Ok u) = Fits m × (claim < length n.claims)
-Begun n claim m (Err fault.Memory) = Fits m → ⊥
-Begun n claim m (Err fault.NoClaim) = Fits m × (length n.claims ≤ claim)
-Begun n claim m (Err e) = ⊥
+abbrev pub CanBegin : SystemNet → ℕ → Memory → Result (Unit {0}) Fault → Type 0
+CanBegin n claim m (Ok u) = Fits m × (claim < length n.claims)
+CanBegin n claim m (Err fault.Memory) = Fits m → ⊥
+CanBegin n claim m (Err fault.NoClaim) = Fits m × (length n.claims ≤ claim)
+CanBegin n claim m (Err e) = ⊥
 
 -- what a call of judge answers, from the memory m to the memory k
 abbrev pub Called : {V : Type 0} → Meaning V → SystemNet → ℕ → Memory → Memory → Result (Verdict V) Fault → Type 0
 Called d n claim m k (Ok r) =
     Fits m × (claim < length n.claims) × (k.codes ≡ codes_of n claim) × AllWeigh d k.codes × VerdictOn d k.codes n r k.before k.after
-Called d n claim m k (Err fault.Memory) = Begun n claim m (Err fault.Memory) × (k ≡ m)
-Called d n claim m k (Err fault.NoClaim) = Begun n claim m (Err fault.NoClaim) × (k ≡ m)
+Called d n claim m k (Err fault.Memory) = CanBegin n claim m (Err fault.Memory) × (k ≡ m)
+Called d n claim m k (Err fault.NoClaim) = CanBegin n claim m (Err fault.NoClaim) × (k ≡ m)
 Called d n claim m k (Err fault.NoWeight) =
     Fits m × (claim < length n.claims) × (k.codes ≡ codes_of n claim) × (AllWeigh d k.codes → ⊥) × (k.before ≡ m.before) × (k.after ≡ m.after)
 Called d n claim m k (Err e) = ⊥

@@ -13,7 +13,7 @@ use Rattle.net.specs.System.{SystemNet}
 use Rattle.net.specs.Nets.{HasCell, claim_of, codes_of}
 use Rattle.net.specs.Runs.{Bounded, initial}
 use Rattle.judge.specs.declared.verdict.Breach.{Breach}
-use Rattle.judge.specs.Calls.{AllWeigh, Begun, Called, Fits, Memory}
+use Rattle.judge.specs.Calls.{AllWeigh, CanBegin, Called, Fits, Memory}
 
 -- every weight is plain
 abbrev pub AllPlain : {V : Type 0} → Meaning V → (V → Type 0) → List ℤ → Type 0
@@ -24,16 +24,16 @@ abbrev pub CapIs : {V : Type 0} → Meaning V → (V → Type 0) → List ℤ �
 CapIs d plain codes n cell most = Largest d plain (value_of d codes (initial n)) (weight_of d codes cell) most
 
 -- whether a call for a cap can begin: as a call of judge, and the net has the cell
-abbrev pub BegunAt : SystemNet → ℕ → ℕ → Memory → Result (Unit {0}) Fault → Type 0
-BegunAt n claim cell m (Ok u) = Fits m × (claim < length n.claims) × HasCell n cell
-BegunAt n claim cell m (Err fault.NoCell) = Fits m × (claim < length n.claims) × (HasCell n cell → ⊥)
-BegunAt n claim cell m (Err e) = Begun n claim m (Err e)
+abbrev pub CanBeginAt : SystemNet → ℕ → ℕ → Memory → Result (Unit {0}) Fault → Type 0
+CanBeginAt n claim cell m (Ok u) = Fits m × (claim < length n.claims) × HasCell n cell
+CanBeginAt n claim cell m (Err fault.NoCell) = Fits m × (claim < length n.claims) × (HasCell n cell → ⊥)
+CanBeginAt n claim cell m (Err e) = CanBegin n claim m (Err e)
 
 -- what a call for a cap answers, from the memory m to the memory k: a cap only by an accepted claim with plain weights
 abbrev pub Asked : {V : Type 0} → Meaning V → (V → Type 0) → SystemNet → ℕ → ℕ → Memory → Memory → Result (Option ℕ) Fault → Type 0
 Asked d plain n claim cell m k (Ok most) =
     HasCell n cell × AllPlain d plain k.codes × ((c : ℕ) × Called d n claim m k (Ok (Ok c))) × CapIs d plain k.codes n cell most
-Asked d plain n claim cell m k (Err fault.NoCell) = BegunAt n claim cell m (Err fault.NoCell) × (k ≡ m)
+Asked d plain n claim cell m k (Err fault.NoCell) = CanBeginAt n claim cell m (Err fault.NoCell) × (k ≡ m)
 Asked d plain n claim cell m k (Err fault.NoWeight) = HasCell n cell × Called d n claim m k (Err fault.NoWeight)
 Asked d plain n claim cell m k (Err fault.NotPlain) =
     Fits m × (claim < length n.claims) × HasCell n cell × (k.codes ≡ codes_of n claim) × AllWeigh d k.codes × (AllPlain d plain k.codes → ⊥) × (k.before ≡ m.before) × (k.after ≡ m.after)
@@ -44,7 +44,7 @@ Asked d plain n claim cell m k (Err e) = Called d n claim m k (Err e)
 abbrev pub Blind : SystemNet → ℕ → ℕ → Memory → Memory → Result (Option ℕ) Fault → Type 0
 Blind n claim cell m k (Ok most) = ⊥
 Blind n claim cell m k (Err fault.NotPlain) = Fits m × HasCell n cell × (k.codes ≡ codes_of n claim) × (k.before ≡ m.before) × (k.after ≡ m.after)
-Blind n claim cell m k (Err e) = BegunAt n claim cell m (Err e) × (k ≡ m)
+Blind n claim cell m k (Err e) = CanBeginAt n claim cell m (Err e) × (k ≡ m)
 
 -- the same by kind
 abbrev pub AskedByKind : Kind → SystemNet → ℕ → ℕ → Memory → Memory → Result (Option ℕ) Fault → Type 0

@@ -3,7 +3,7 @@ ghost use Rattle.domain.specs.Meaning.{Tells};
 ghost use Rattle.term.specs.Worth.{value_of};
 ghost use Rattle.net.specs.Runs.{initial};
 ghost use Rattle.judge.specs.Calls.{SameLoans, lent, net_of};
-ghost use Rattle.judge.specs.Caps.{AllPlain, Asked, BegunAt, CapIs, Limits};
+ghost use Rattle.judge.specs.Caps.{AllPlain, Asked, CanBeginAt, CapIs, Limits};
 
 use crate::judging::Judge;
 use domain::{Measuring, WeightDomain, add_weight};
@@ -44,7 +44,7 @@ impl<'n, 'm> Judge<'n, 'm> {
 
     // Whether a call for a cap can begin.
     pub(crate) fn begin_cap(&self, claim: usize, cell: usize) -> Result<(), Fault>
-        ensures { BegunAt (net_of self.now) claim cell (lent self.now) result }
+        ensures { CanBeginAt (net_of self.now) claim cell (lent self.now) result }
     {
         self.begin(claim)?;
         if !self.net.has_cell(cell) {
