@@ -14,9 +14,9 @@ use Rattle.net.proofs.Every.{weights}
 use Rattle.std.proofs.lemmas.List.{get_or_past}
 use Rattle.std.proofs.lemmas.Bool.{cases_lt}
 use Rattle.net.specs.Nets.{IsKind, claim_of, codes_of, no_claim}
-use Rattle.judge.specs.Calls.{AllWeigh, Called, Fits, Memory, SameLoans, lent}
-use Rattle.judge.specs.Kinds.{By, ByItsKind, ByKind, Outcome, Weighed}
-use Rattle.judge.specs.Caps.{Asked, AskedByItsKind, AskedByKind, Blind}
+use Rattle.judge.specs.Calls.{AllWeigh, Fits, JudgeCalled, Memory, SameLoans, lent}
+use Rattle.judge.specs.Kinds.{ByItsKind, ByKind, KindCalled, Outcome, Weighed}
+use Rattle.judge.specs.Caps.{AskedByItsKind, AskedByKind, CapCalled, NoCapCalled}
 
 use Rattle.judge.specs.declared.judging.Judge.{Judge}
 
@@ -25,14 +25,14 @@ still_fits v w s f = record { codes_long = s.codes.long ∙ f.codes_long; before
 
 -- under a domain of which all the claim's codes are weights, none is found to be no weight
 module _ {V : Type 0} (d : Meaning V) (n : SystemNet) (claim : ℕ) (m k : Memory) (all : AllWeigh d (codes_of n claim)) where
-  called : Called d n claim m k (Err fault.NoWeight) → ⊥
+  called : JudgeCalled d n claim m k (Err fault.NoWeight) → ⊥
   called c = c.3 (subst (AllWeigh d) (sym c.2) all)
 
-  pub judged : (r : Result Outcome Fault) → By d n claim m k r → Weighed r
-  judged r b e = called (subst (λ (x : Result Outcome Fault). By d n claim m k x) e b)
+  pub judged : (r : Result Outcome Fault) → KindCalled d n claim m k r → Weighed r
+  judged r b e = called (subst (λ (x : Result Outcome Fault). KindCalled d n claim m k x) e b)
 
-  pub asked : (plain : V → Type 0) (cell : ℕ) (r : Result (Option ℕ) Fault) → Asked d plain n claim cell m k r → Weighed r
-  asked plain cell r a e = called (subst (λ (x : Result (Option ℕ) Fault). Asked d plain n claim cell m k x) e a).1
+  pub asked : (plain : V → Type 0) (cell : ℕ) (r : Result (Option ℕ) Fault) → CapCalled d plain n claim cell m k r → Weighed r
+  asked plain cell r a e = called (subst (λ (x : Result (Option ℕ) Fault). CapCalled d plain n claim cell m k x) e a).1
 
 its_kind : (n : SystemNet) (claim : ℕ) → claim < length n.claims → IsKind n claim (claim_of n claim).kind
 its_kind n claim h = record { there = h; is = refl }
@@ -65,8 +65,8 @@ module _ (n : Net) (claim : ℕ) (m k : Memory) where
 
   -- the same of caps
   module _ (cell : ℕ) where
-    blind : (r : Result (Option ℕ) Fault) → Blind N claim cell m k r → Weighed r
-    blind r b e = (subst (λ (x : Result (Option ℕ) Fault). Blind N claim cell m k x) e b).0
+    blind : (r : Result (Option ℕ) Fault) → NoCapCalled N claim cell m k r → Weighed r
+    blind r b e = (subst (λ (x : Result (Option ℕ) Fault). NoCapCalled N claim cell m k x) e b).0
 
     pub kind_asked : (x : Kind) → IsKind N claim x → (r : Result (Option ℕ) Fault) → AskedByKind x N claim cell m k r → Weighed r
     kind_asked kind.Equal is r a = asked equal N claim m k (λ c h. weights n claim c kind.Equal is h) (λ v. pos 0 ≤ℤ v) cell r a
@@ -84,7 +84,7 @@ module _ (n : Net) (claim : ℕ) (m k : Memory) where
 
 -- on memory that fits, judging a claim of the net by kind is refused for no other reason
 module _ (n : SystemNet) (claim : ℕ) (m k : Memory) (fits : Fits m) (there : claim < length n.claims) where
-  by : {V : Type 0} (d : Meaning V) (e : Fault) → Called d n claim m k (Err e) → e ≡ fault.NoWeight
+  by : {V : Type 0} (d : Meaning V) (e : Fault) → JudgeCalled d n claim m k (Err e) → e ≡ fault.NoWeight
   by d fault.NoWeight c = refl
   by d fault.Memory c = absurd (c.0 fits)
   by d fault.NoClaim c = let z = c.0.1 in absurd (omega arith)

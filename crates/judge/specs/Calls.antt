@@ -72,16 +72,16 @@ CanBegin n claim m (Err fault.NoClaim) = Fits m × (length n.claims ≤ claim)
 CanBegin n claim m (Err e) = ⊥
 
 -- what a call of judge answers, from the memory m to the memory k
-abbrev pub Called : {V : Type 0} → Meaning V → SystemNet → ℕ → Memory → Memory → Result (Verdict V) Fault → Type 0
-Called d n claim m k (Ok r) =
+abbrev pub JudgeCalled : {V : Type 0} → Meaning V → SystemNet → ℕ → Memory → Memory → Result (Verdict V) Fault → Type 0
+JudgeCalled d n claim m k (Ok r) =
     Fits m × (claim < length n.claims) × (k.codes ≡ codes_of n claim) × AllWeigh d k.codes × VerdictOn d k.codes n r k.before k.after
-Called d n claim m k (Err fault.Memory) = CanBegin n claim m (Err fault.Memory) × (k ≡ m)
-Called d n claim m k (Err fault.NoClaim) = CanBegin n claim m (Err fault.NoClaim) × (k ≡ m)
-Called d n claim m k (Err fault.NoWeight) =
+JudgeCalled d n claim m k (Err fault.Memory) = CanBegin n claim m (Err fault.Memory) × (k ≡ m)
+JudgeCalled d n claim m k (Err fault.NoClaim) = CanBegin n claim m (Err fault.NoClaim) × (k ≡ m)
+JudgeCalled d n claim m k (Err fault.NoWeight) =
     Fits m × (claim < length n.claims) × (k.codes ≡ codes_of n claim) × (AllWeigh d k.codes → ⊥) × (k.before ≡ m.before) × (k.after ≡ m.after)
-Called d n claim m k (Err e) = ⊥
+JudgeCalled d n claim m k (Err e) = ⊥
 
 -- the codes of a claim are in memory, each a weight
 abbrev pub Loaded : {V : Type 0} → Meaning V → SystemNet → ℕ → Memory → Memory → Result (Unit {0}) Fault → Type 0
 Loaded d n claim m k (Ok u) = (k.codes ≡ codes_of n claim) × AllWeigh d k.codes × (k.before ≡ m.before) × (k.after ≡ m.after)
-Loaded d n claim m k (Err e) = Called d n claim m k (Err e)
+Loaded d n claim m k (Err e) = JudgeCalled d n claim m k (Err e)

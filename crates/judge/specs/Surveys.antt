@@ -31,8 +31,8 @@ pub record Ready (n : SystemNet) (m : Memory) (s : LentList Outcome) : Type 0 wh
   pub room : length (held s) + length n.claims ≤ length (memory s)
 
 -- from the memory m and the sheet s to the memory k and the sheet t
-abbrev pub Surveyed : SystemNet → Memory → Memory → LentList Outcome → LentList Outcome → Result (Unit {0}) Fault → Type 0
-Surveyed n m k s t (Ok u) = Ready n m s × Added n m k s t (length n.claims)
-Surveyed n m k s t (Err fault.Memory) = (Fits m → ⊥) × (k ≡ m) × (t ≡ s)
-Surveyed n m k s t (Err fault.TrailFull) = Fits m × (length (memory s) < length (held s) + length n.claims) × (k ≡ m) × (t ≡ s)
-Surveyed n m k s t (Err e) = ⊥
+abbrev pub SurveyCalled : SystemNet → Memory → Memory → LentList Outcome → LentList Outcome → Result (Unit {0}) Fault → Type 0
+SurveyCalled n m k s t (Ok u) = Ready n m s × Added n m k s t (length n.claims)
+SurveyCalled n m k s t (Err fault.Memory) = (Fits m → ⊥) × (k ≡ m) × (t ≡ s)
+SurveyCalled n m k s t (Err fault.TrailFull) = Fits m × (length (memory s) < length (held s) + length n.claims) × (k ≡ m) × (t ≡ s)
+SurveyCalled n m k s t (Err e) = ⊥

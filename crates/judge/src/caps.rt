@@ -3,7 +3,7 @@ ghost use Rattle.domain.specs.Meaning.{Tells};
 ghost use Rattle.term.specs.Worth.{value_of};
 ghost use Rattle.net.specs.Runs.{initial};
 ghost use Rattle.judge.specs.Calls.{SameLoans, lent, net_of};
-ghost use Rattle.judge.specs.Caps.{AllPlain, Asked, CanBeginAt, CapIs, Limits};
+ghost use Rattle.judge.specs.Caps.{AllPlain, CanBeginAt, CapCalled, CapIs, Limits};
 
 use crate::judging::Judge;
 use domain::{Measuring, WeightDomain, add_weight};
@@ -61,7 +61,7 @@ impl<'n, 'm> Judge<'n, 'm> {
         cell: usize,
         m: &M,
     ) -> Result<Option<u64>, Fault>
-        ensures asked { Asked (M.WeightDomain.meaning m.now) (M.plain m.now) (net_of self.old) claim cell (lent self.old) (lent self.new) result }
+        ensures asked { CapCalled (M.WeightDomain.meaning m.now) (M.plain m.now) (net_of self.old) claim cell (lent self.old) (lent self.new) result }
         ensures limits { Limits (net_of self.old) cell result }
         ensures same { SameLoans self.old self.new }
     {

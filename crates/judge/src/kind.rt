@@ -2,8 +2,8 @@ ghost use Rattle.std.specs.Prelude.{◌≡◌};
 ghost use Rattle.lent.specs.Held.{loan};
 ghost use Rattle.judge.specs.Calls.{SameLoans, lent, net_of};
 ghost use Rattle.judge.specs.Caps.{AskedByItsKind, Limits};
-ghost use Rattle.judge.specs.Kinds.{By, ByItsKind, Weighed};
-ghost use Rattle.judge.specs.Surveys.{Surveyed};
+ghost use Rattle.judge.specs.Kinds.{ByItsKind, KindCalled, Weighed};
+ghost use Rattle.judge.specs.Surveys.{SurveyCalled};
 
 use crate::judging::Judge;
 use crate::verdict::Outcome;
@@ -14,7 +14,7 @@ use term::Fault;
 impl<'n, 'm> Judge<'n, 'm> {
     // Judges a claim under a domain, and leaves the values out.
     fn outcome<D: WeightDomain>(&mut self, claim: usize, d: &D) -> Result<Outcome, Fault>
-        ensures by { By (D.meaning d.now) (net_of self.old) claim (lent self.old) (lent self.new) result }
+        ensures by { KindCalled (D.meaning d.now) (net_of self.old) claim (lent self.old) (lent self.new) result }
         ensures same { SameLoans self.old self.new }
     {
         // no `map_err`: its proof stays open
@@ -62,7 +62,7 @@ impl<'n, 'm> Judge<'n, 'm> {
 
     // Judges every claim by its kind, one after the other, and adds one verdict each to the sheet.
     pub fn survey(&mut self, sheet: &mut LentList<Outcome>) -> Result<(), Fault>
-        ensures surveyed { Surveyed (net_of self.old) (lent self.old) (lent self.new) sheet.old sheet.new result }
+        ensures surveyed { SurveyCalled (net_of self.old) (lent self.old) (lent self.new) sheet.old sheet.new result }
         ensures same { SameLoans self.old self.new }
         ensures loan { loan sheet.new ≡ loan sheet.old }
     {

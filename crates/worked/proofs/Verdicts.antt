@@ -11,9 +11,9 @@ use Rattle.term.specs.declared.fault.Fault.{Fault}
 use Rattle.term.specs.declared.fault.Fault.TheVariants as fault
 use Rattle.net.specs.Nets.{claim_of, codes_of, given, taken}
 use Rattle.net.specs.System.{SystemNet}
-use Rattle.judge.specs.Calls.{AllWeigh, Called, Fits, Left, Memory, no_tokens}
+use Rattle.judge.specs.Calls.{AllWeigh, Fits, JudgeCalled, Left, Memory, no_tokens}
 use Rattle.judge.specs.Judged.{Judged, Verdict}
-use Rattle.judge.specs.Kinds.{By, ByItsKind, ByKind, Outcome}
+use Rattle.judge.specs.Kinds.{ByItsKind, ByKind, KindCalled, Outcome}
 use Rattle.judge.proofs.Markings.{exactly, keeps}
 use Rattle.worked.specs.Rows.{Answer, Shows, verdict_shown}
 use Rattle.worked.proofs.Decided.{Values, domain_of, laws_of, related, related_tells}
@@ -81,7 +81,7 @@ left n (Err x) =
 -- a claim of which all codes are weights, a verdict on it, and memory
 module _ {V : Type 0} {d : Meaning V} (laws : Laws d) (n : SystemNet) (claim : ℕ) (there : claim < length n.claims) (long : length (codes_of n claim) ≡ 1024) (all : AllWeigh d (codes_of n claim)) (v : Verdict V) (j : Judged d (codes_of n claim) n v) (m : Memory) (fits : Fits m) where
   -- the call can answer the verdict
-  pub called : (k : Memory) × Called d n claim m k (Ok v)
+  pub called : (k : Memory) × JudgeCalled d n claim m k (Ok v)
   called =
       let a = left n v in (
         record { codes = codes_of n claim; before = a.0; after = a.1.0 },
@@ -95,34 +95,34 @@ module _ {V : Type 0} {d : Meaning V} (laws : Laws d) (n : SystemNet) (claim : �
       )
 
   -- by kind it can answer the verdict without its values
-  by_called : (k : Memory) → Called d n claim m k (Ok v) → By d n claim m k (Ok (outcome_of v))
+  by_called : (k : Memory) → JudgeCalled d n claim m k (Ok v) → KindCalled d n claim m k (Ok (outcome_of v))
   by_called k = without v
     where
-      without : (u : Verdict V) → Called d n claim m k (Ok u) → By d n claim m k (Ok (outcome_of u))
+      without : (u : Verdict V) → JudgeCalled d n claim m k (Ok u) → KindCalled d n claim m k (Ok (outcome_of u))
       without (Ok c) h = h
       without (Err x) h = (x.before, (x.after, h))
 
-  pub by_some : (k : Memory) × By d n claim m k (Ok (outcome_of v))
+  pub by_some : (k : Memory) × KindCalled d n claim m k (Ok (outcome_of v))
   by_some = (called.0, by_called called.0 called.1)
 
   -- a verdict that the call can answer is this one, but for its values
-  same_outcome : (k : Memory) (u : Verdict V) → Called d n claim m k (Ok u) → verdict_shown (Ok (outcome_of v)) ≡ verdict_shown (Ok (outcome_of u))
+  same_outcome : (k : Memory) (u : Verdict V) → JudgeCalled d n claim m k (Ok u) → verdict_shown (Ok (outcome_of v)) ≡ verdict_shown (Ok (outcome_of u))
   same_outcome k u c = only_one d (codes_of n claim) n v u j (subst (λ (x : List ℤ). Judged d x n u) c.2 c.4.judged)
 
   -- and no fault
-  never_refused : (k : Memory) (e : Fault) → Called d n claim m k (Err e) → ⊥
+  never_refused : (k : Memory) (e : Fault) → JudgeCalled d n claim m k (Err e) → ⊥
   never_refused k fault.Memory c = c.0 fits
   never_refused k fault.NoClaim c = let h = c.0.1 in let z : ⊥ = omega arith in z
   never_refused k fault.NoWeight c = c.3 (subst (AllWeigh d) (sym c.2) all)
   never_refused k e c = absurd c
 
-  by_only : (k : Memory) (r : Result Outcome Fault) → By d n claim m k r → verdict_shown (Ok (outcome_of v)) ≡ verdict_shown r
+  by_only : (k : Memory) (r : Result Outcome Fault) → KindCalled d n claim m k r → verdict_shown (Ok (outcome_of v)) ≡ verdict_shown r
   by_only k (Ok (Ok c)) b = same_outcome k (Ok c) b
   by_only k (Ok (Err f)) b = same_outcome k (Err (record { firing = f; before = b.0; after = b.1.0 })) b.1.1
   by_only k (Err e) b = absurd (never_refused k e b)
 
 -- judging by kind is judging under the kind's domain
-by_kind : (x : Kind) (n : SystemNet) (claim : ℕ) (m k : Memory) (r : Result Outcome Fault) → ByKind x n claim m k r ≡ By (domain_of x) n claim m k r
+by_kind : (x : Kind) (n : SystemNet) (claim : ℕ) (m k : Memory) (r : Result Outcome Fault) → ByKind x n claim m k r ≡ KindCalled (domain_of x) n claim m k r
 by_kind kind.Equal n claim m k r = refl
 by_kind kind.NeverRises n claim m k r = refl
 by_kind kind.NeverFalls n claim m k r = refl
@@ -154,7 +154,7 @@ judging_sound n claim = by_claim (ltb claim (length n.claims)) refl
         let v = verdict_by n claim x in
         let j = verdict_judged n claim x in
         let f = weights_are n claim x e in
-        shows (λ m k r. ByItsKind n claim m k r) verdict_shown (λ m k r. By (domain_of x) n claim m k r)
+        shows (λ m k r. ByItsKind n claim m k r) verdict_shown (λ m k r. KindCalled (domain_of x) n claim m k r)
         (λ m k r. ap (λ (z : Kind). ByKind z n claim m k r) (sym is) ∙ by_kind x n claim m k r)
         (Ok (outcome_of v))
         (λ m fits. by_some (laws_of x) n claim h f.0 f.1 v j m fits)
