@@ -15,7 +15,7 @@ use Rattle.std.proofs.lemmas.List.{get_or_past}
 use Rattle.std.proofs.lemmas.Bool.{cases_lt}
 use Rattle.net.specs.Nets.{IsKind, claim_of, codes_of, no_claim}
 use Rattle.judge.specs.Calls.{AllWeigh, Fits, JudgeCalled, Memory, SameLoans, lent}
-use Rattle.judge.specs.Kinds.{ByItsKind, ByKind, KindCalled, Outcome, Weighed}
+use Rattle.judge.specs.Kinds.{ByItsKind, ByKind, KindCalled, NeverNoWeight, Outcome}
 use Rattle.judge.specs.Caps.{AskedByItsKind, AskedByKind, CapCalled, NoCapCalled}
 
 use Rattle.judge.specs.declared.judging.Judge.{Judge}
@@ -28,10 +28,10 @@ module _ {V : Type 0} (d : Meaning V) (n : SystemNet) (claim : ℕ) (m k : Memor
   called : JudgeCalled d n claim m k (Err fault.NoWeight) → ⊥
   called c = c.3 (subst (AllWeigh d) (sym c.2) all)
 
-  pub judged : (r : Result Outcome Fault) → KindCalled d n claim m k r → Weighed r
+  pub judged : (r : Result Outcome Fault) → KindCalled d n claim m k r → NeverNoWeight r
   judged r b e = called (subst (λ (x : Result Outcome Fault). KindCalled d n claim m k x) e b)
 
-  pub asked : (plain : V → Type 0) (cell : ℕ) (r : Result (Option ℕ) Fault) → CapCalled d plain n claim cell m k r → Weighed r
+  pub asked : (plain : V → Type 0) (cell : ℕ) (r : Result (Option ℕ) Fault) → CapCalled d plain n claim cell m k r → NeverNoWeight r
   asked plain cell r a e = called (subst (λ (x : Result (Option ℕ) Fault). CapCalled d plain n claim cell m k x) e a).1
 
 its_kind : (n : SystemNet) (claim : ℕ) → claim < length n.claims → IsKind n claim (claim_of n claim).kind
@@ -42,7 +42,7 @@ module _ (n : Net) (claim : ℕ) (m k : Memory) where
   abbrev N : SystemNet
   N = system n
 
-  pub kind_judged : (x : Kind) → IsKind N claim x → (r : Result Outcome Fault) → ByKind x N claim m k r → Weighed r
+  pub kind_judged : (x : Kind) → IsKind N claim x → (r : Result Outcome Fault) → ByKind x N claim m k r → NeverNoWeight r
   kind_judged kind.Equal is r b = judged equal N claim m k (λ c h. weights n claim c kind.Equal is h) r b
   kind_judged kind.NeverRises is r b = judged never_rises N claim m k (λ c h. weights n claim c kind.NeverRises is h) r b
   kind_judged kind.NeverFalls is r b = judged (turned never_rises) N claim m k (λ c h. weights n claim c kind.NeverFalls is h) r b
@@ -57,7 +57,7 @@ module _ (n : Net) (claim : ℕ) (m k : Memory) where
   no_codes : {V : Type 0} (d : Meaning V) → length N.claims ≤ claim → AllWeigh d (codes_of N claim)
   no_codes d h c l = let z = ap (λ (x : Claim). length x.codes) (get_or_past N.claims claim no_claim h) in absurd (omega arith)
 
-  pub its_judged : (r : Result Outcome Fault) → ByItsKind N claim m k r → Weighed r
+  pub its_judged : (r : Result Outcome Fault) → ByItsKind N claim m k r → NeverNoWeight r
   its_judged r b = ⊎_elim
       (λ (h : claim < length N.claims). kind_judged (claim_of N claim).kind (its_kind N claim h) r b)
       (λ (h : length N.claims ≤ claim). judged equal N claim m k (no_codes equal h) r (subst (λ (x : Kind). ByKind x N claim m k r) (missing h) b))
@@ -65,10 +65,10 @@ module _ (n : Net) (claim : ℕ) (m k : Memory) where
 
   -- the same of caps
   module _ (cell : ℕ) where
-    blind : (r : Result (Option ℕ) Fault) → NoCapCalled N claim cell m k r → Weighed r
+    blind : (r : Result (Option ℕ) Fault) → NoCapCalled N claim cell m k r → NeverNoWeight r
     blind r b e = (subst (λ (x : Result (Option ℕ) Fault). NoCapCalled N claim cell m k x) e b).0
 
-    pub kind_asked : (x : Kind) → IsKind N claim x → (r : Result (Option ℕ) Fault) → AskedByKind x N claim cell m k r → Weighed r
+    pub kind_asked : (x : Kind) → IsKind N claim x → (r : Result (Option ℕ) Fault) → AskedByKind x N claim cell m k r → NeverNoWeight r
     kind_asked kind.Equal is r a = asked equal N claim m k (λ c h. weights n claim c kind.Equal is h) (λ v. pos 0 ≤ℤ v) cell r a
     kind_asked kind.NeverRises is r a = asked never_rises N claim m k (λ c h. weights n claim c kind.NeverRises is h) (λ v. pos 0 ≤ℤ v) cell r a
     kind_asked kind.NeverFalls is r a = blind r a
@@ -76,7 +76,7 @@ module _ (n : Net) (claim : ℕ) (m k : Memory) where
     kind_asked kind.Trap is r a = blind r a
     kind_asked kind.Siphon is r a = asked siphon N claim m k (λ c h. weights n claim c kind.Siphon is h) (λ v. Unit {0}) cell r a
 
-    pub its_asked : (r : Result (Option ℕ) Fault) → AskedByItsKind N claim cell m k r → Weighed r
+    pub its_asked : (r : Result (Option ℕ) Fault) → AskedByItsKind N claim cell m k r → NeverNoWeight r
     its_asked r a = ⊎_elim
         (λ (h : claim < length N.claims). kind_asked (claim_of N claim).kind (its_kind N claim h) r a)
         (λ (h : length N.claims ≤ claim). asked equal N claim m k (no_codes equal h) (λ v. pos 0 ≤ℤ v) cell r (subst (λ (x : Kind). AskedByKind x N claim cell m k r) (missing h) a))
@@ -98,5 +98,5 @@ module _ (n : SystemNet) (claim : ℕ) (m k : Memory) (fits : Fits m) (there : c
   by_kind kind.Trap e b = by (turned siphon) e b
   by_kind kind.Siphon e b = by siphon e b
 
-  pub refused : (e : Fault) → ByItsKind n claim m k (Err e) → Weighed {A = Outcome} (Err e) → ⊥
+  pub refused : (e : Fault) → ByItsKind n claim m k (Err e) → NeverNoWeight {A = Outcome} (Err e) → ⊥
   refused e b w = w (ap (λ (x : Fault). Err x) (by_kind (claim_of n claim).kind e b))

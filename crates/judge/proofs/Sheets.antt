@@ -6,7 +6,7 @@ use Rattle.lent.specs.declared.list.LentList.{LentList}
 use Rattle.net.specs.System.{SystemNet}
 use Rattle.judge.specs.Calls.{Memory}
 use Rattle.judge.specs.Kinds.{ByItsKind, Outcome}
-use Rattle.judge.specs.Surveys.{Added, Judges, Noted, Ready}
+use Rattle.judge.specs.Surveys.{AllJudged, Judges, Noted, Ready}
 
 longer : (xs ys : List Outcome) (o : Outcome) → ys ≡ xs ++ o ∷ [] → length ys ≡ length xs + 1
 longer xs ys o e = ap length e ∙ length-append xs (o ∷ [])
@@ -59,11 +59,11 @@ judges_long n m k (suc c) os j =
     omega arith
 
 module _ (n : SystemNet) (m : Memory) (s : LentList Outcome) where
-  pub added_none : Added n m m s s 0
+  pub added_none : AllJudged n m m s s 0
   added_none = record { outcomes = []; judged = judges_none n m; noted = noted_none s }
 
-  pub added_more : (x k : Memory) (y t : LentList Outcome) (c : ℕ) (o : Outcome) → Added n m x s y c → ByItsKind n c x k (Ok o)
-      → held t ≡ held y ++ o ∷ [] → memory t ≡ set (memory y) (length (held y)) o → Added n m k s t (c + 1)
+  pub added_more : (x k : Memory) (y t : LentList Outcome) (c : ℕ) (o : Outcome) → AllJudged n m x s y c → ByItsKind n c x k (Ok o)
+      → held t ≡ held y ++ o ∷ [] → memory t ≡ set (memory y) (length (held y)) o → AllJudged n m k s t (c + 1)
   added_more x k y t c o a b h e = record {
     outcomes = a.outcomes ++ o ∷ [];
     judged = judges_more n m x k c a.outcomes o a.judged b;
@@ -71,7 +71,7 @@ module _ (n : SystemNet) (m : Memory) (s : LentList Outcome) where
   }
 
   -- where there was room for all claims, there is for one more
-  pub still_room : (k : Memory) (t : LentList Outcome) (c : ℕ) → Ready n m s → Added n m k s t c → c < length n.claims → length (held t) < length (memory t)
+  pub still_room : (k : Memory) (t : LentList Outcome) (c : ℕ) → Ready n m s → AllJudged n m k s t c → c < length n.claims → length (held t) < length (memory t)
   still_room k t c ready a h =
       let held_now = ap length a.noted.holds ∙ length-append (held s) a.outcomes in
       let whole = a.noted.long in

@@ -15,8 +15,8 @@ abbrev pub Outcome : Type 0
 Outcome = Result ℕ Firing
 
 -- no code is found to be no weight: in every net the codes of a claim are weights of its kind
-abbrev pub Weighed : {A : Type 0} → Result A Fault → Type 0
-Weighed r = r ≢ Err fault.NoWeight
+abbrev pub NeverNoWeight : {A : Type 0} → Result A Fault → Type 0
+NeverNoWeight r = r ≢ Err fault.NoWeight
 
 -- what judging under a domain answers, without the values of a broken verdict
 abbrev pub KindCalled : {V : Type 0} → Meaning V → SystemNet → ℕ → Memory → Memory → Result Outcome Fault → Type 0

@@ -20,7 +20,7 @@ pub record Noted (s t : LentList Outcome) (os : List Outcome) : Type 0 where
   pub rest : drop (length (held t)) (memory t) ≡ drop (length (held t)) (memory s)
 
 -- the first c claims are judged onto the sheet, with an outcome for each
-pub record Added (n : SystemNet) (m k : Memory) (s t : LentList Outcome) (c : ℕ) : Type 0 where
+pub record AllJudged (n : SystemNet) (m k : Memory) (s t : LentList Outcome) (c : ℕ) : Type 0 where
   pub outcomes : List Outcome
   pub judged : Judges n m c k outcomes
   pub noted : Noted s t outcomes
@@ -32,7 +32,7 @@ pub record Ready (n : SystemNet) (m : Memory) (s : LentList Outcome) : Type 0 wh
 
 -- from the memory m and the sheet s to the memory k and the sheet t
 abbrev pub SurveyCalled : SystemNet → Memory → Memory → LentList Outcome → LentList Outcome → Result (Unit {0}) Fault → Type 0
-SurveyCalled n m k s t (Ok u) = Ready n m s × Added n m k s t (length n.claims)
+SurveyCalled n m k s t (Ok u) = Ready n m s × AllJudged n m k s t (length n.claims)
 SurveyCalled n m k s t (Err fault.Memory) = (Fits m → ⊥) × (k ≡ m) × (t ≡ s)
 SurveyCalled n m k s t (Err fault.TrailFull) = Fits m × (length (memory s) < length (held s) + length n.claims) × (k ≡ m) × (t ≡ s)
 SurveyCalled n m k s t (Err e) = ⊥

@@ -2,7 +2,7 @@ ghost use Rattle.std.specs.Prelude.{◌≡◌};
 ghost use Rattle.lent.specs.Held.{loan};
 ghost use Rattle.judge.specs.Calls.{SameLoans, lent, net_of};
 ghost use Rattle.judge.specs.Caps.{AskedByItsKind, Limits};
-ghost use Rattle.judge.specs.Kinds.{ByItsKind, KindCalled, Weighed};
+ghost use Rattle.judge.specs.Kinds.{ByItsKind, KindCalled, NeverNoWeight};
 ghost use Rattle.judge.specs.Surveys.{SurveyCalled};
 
 use crate::judging::Judge;
@@ -27,7 +27,7 @@ impl<'n, 'm> Judge<'n, 'm> {
     // Judges a claim by its kind.
     pub fn judge_by_kind(&mut self, claim: usize) -> Result<Outcome, Fault>
         ensures called { ByItsKind (net_of self.old) claim (lent self.old) (lent self.new) result }
-        ensures weighed { Weighed result }
+        ensures weighed { NeverNoWeight result }
         ensures same { SameLoans self.old self.new }
     {
         match self.net.kind(claim) {
@@ -44,7 +44,7 @@ impl<'n, 'm> Judge<'n, 'm> {
     // of their domain.
     pub fn cap_by_kind(&mut self, claim: usize, cell: usize) -> Result<Option<u64>, Fault>
         ensures called { AskedByItsKind (net_of self.old) claim cell (lent self.old) (lent self.new) result }
-        ensures weighed { Weighed result }
+        ensures weighed { NeverNoWeight result }
         ensures limits { Limits (net_of self.old) cell result }
         ensures same { SameLoans self.old self.new }
     {

@@ -1,7 +1,7 @@
 use Rattle.std.proofs.Common.{◌≡◌, ℕ, ◌<◌, ◌++◌, ◌∷◌, [], length, set, subst, arith, rules, length-take}
 use Rattle.lent.specs.Held.{held, memory}
 use Rattle.judge.specs.Calls.{lent, net_of}
-use Rattle.judge.specs.Surveys.{Added}
+use Rattle.judge.specs.Surveys.{AllJudged}
 use Rattle.judge.proofs.Refusals.{refused, still_fits}
 use Rattle.judge.proofs.Sheets.{added_more, added_none, still_room}
 use Rattle.judge.proofs.judging.Judge.survey.Goals as goal
@@ -49,4 +49,4 @@ returns-clause-surveyed c =
     let n = net_of c.args.self.now in
     let inv = c.loop-claim.invariant in
     let all : c.loop-claim.claim ≡ length n.claims = omega (arith, c.claims-claim-end.ensures) in
-    (inv.ready, subst (λ (i : ℕ). Added n (lent c.args.self.now) (lent c.loop-claim.self) c.args.sheet.now c.loop-claim.sheet i) all inv.added)
+    (inv.ready, subst (λ (i : ℕ). AllJudged n (lent c.args.self.now) (lent c.loop-claim.self) c.args.sheet.now c.loop-claim.sheet i) all inv.added)
