@@ -17,7 +17,6 @@ use Rattle.net.specs.Nets.{IsKind, claim_of, codes_of, no_claim}
 use Rattle.judge.specs.Calls.{AllWeigh, Fits, JudgeCalled, Memory, SameLoans, lent}
 use Rattle.judge.specs.Kinds.{ByItsKind, ByKind, KindCalled, NeverNoWeight, Outcome}
 use Rattle.judge.specs.Caps.{AskedByItsKind, AskedByKind, CapCalled, NoCapCalled}
-
 use Rattle.judge.specs.declared.judging.Judge.{Judge}
 
 pub still_fits : (v w : Judge) → SameLoans v w → Fits (lent v) → Fits (lent w)

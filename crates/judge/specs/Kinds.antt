@@ -11,6 +11,7 @@ use Rattle.net.specs.Nets.{claim_of}
 use Rattle.net.specs.declared.firing.Firing.{Firing}
 use Rattle.judge.specs.Calls.{JudgeCalled, Memory}
 
+-- the number of modes with a true guard, or the firing by which the claim breaks
 abbrev pub Outcome : Type 0
 Outcome = Result ℕ Firing
 

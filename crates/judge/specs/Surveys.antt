@@ -30,7 +30,7 @@ pub record Ready (n : SystemNet) (m : Memory) (s : LentList Outcome) : Type 0 wh
   pub fits : Fits m
   pub room : length (held s) + length n.claims ≤ length (memory s)
 
--- from the memory m and the sheet s to the memory k and the sheet t
+-- what a survey answers, from the memory m and the sheet s to the memory k and the sheet t
 abbrev pub SurveyCalled : SystemNet → Memory → Memory → LentList Outcome → LentList Outcome → Result (Unit {0}) Fault → Type 0
 SurveyCalled n m k s t (Ok u) = Ready n m s × AllJudged n m k s t (length n.claims)
 SurveyCalled n m k s t (Err fault.Memory) = (Fits m → ⊥) × (k ≡ m) × (t ≡ s)
