@@ -1,14 +1,14 @@
 -- What a verdict says of every marking and of every run.
-use Rattle.std.proofs.Common.{◌≡◌, ℕ, ◌+◌, ◌-◌, ◌<◌, ◌≤◌, List, [], ◌∷◌, length, ℤ, Ok, Err, sym, refl, ap, ◌∙◌, subst, true≢false, arith}
+use Rattle.std.proofs.Common.{◌≡◌, ℕ, ◌+◌, ◌-◌, ◌<◌, ◌≤◌, List, [], ◌∷◌, length, ℤ, Ok, Err, sym, refl, ap, ◌∙◌, subst, arith}
 use Rattle.domain.specs.Meaning.{Laws, Meaning}
 use Rattle.term.specs.Worth.{Marking, value_of}
 use Rattle.term.proofs.Sums.{value_add, value_holds, value_same}
 use Rattle.net.specs.System.{SystemNet}
-use Rattle.net.specs.Nets.{Mode, given, guard_holds, taken, transition}
+use Rattle.net.specs.Nets.{Mode, given, guard_holds, mode, modes_of, taken, transition}
 use Rattle.net.specs.Runs.{Fires, Run}
 use Rattle.net.specs.declared.firing.Firing.{Firing}
-use Rattle.judge.specs.Judged.{First, Judged, Kept, KeptAll, Verdict, after, before, mode, modes_of}
-use Rattle.judge.specs.Theorem.{BreaksAt, Exactly, Keeps, Right}
+use Rattle.judge.specs.Judged.{First, Judged, Kept, KeptAll, Verdict, after, before}
+use Rattle.judge.specs.Theorem.{BreaksAt, Exactly, Keeps}
 use Rattle.judge.proofs.Orders.{is_mode, numbered}
 
 module _ {V : Type 0} {d : Meaning V} (l : Laws d) (codes : List ℤ) (cells : length codes ≡ 1024) (n : SystemNet) where
@@ -60,13 +60,9 @@ module _ {V : Type 0} {d : Meaning V} (l : Laws d) (codes : List ℤ) (cells : l
         λ r. f.apart (rw (f.before_is, f.after_is) (subst (d.rel (value tm)) same r)),
       )
 
-  pub right : (r : Verdict V) → Judged d codes n r → Right d codes n r
-  right (Ok c) j = λ b. b.3.2 (fires_kept b.0 b.1 b.2 b.3.0 j.1 b.3.1)
-  right (Err x) j = broken_at x.firing.transition x.firing.mode x.before x.after j.0 j.2
-
-  pub exactly : (r : Verdict V) → Right d codes n r → Exactly d codes n r
-  exactly (Ok c) h = (λ e. absurd (true≢false (sym e)), λ b. absurd (h b))
-  exactly (Err x) h = (λ _. (x.firing.transition, x.firing.mode, taken n x.firing.transition x.firing.mode, h), λ _. refl)
+  pub exactly : (r : Verdict V) → Judged d codes n r → Exactly d codes n r
+  exactly (Ok c) j = λ b. b.3.2 (fires_kept b.0 b.1 b.2 b.3.0 j.1 b.3.1)
+  exactly (Err x) j = broken_at x.firing.transition x.firing.mode x.before x.after j.0 j.2
 
   pub keeps : (r : Verdict V) → Judged d codes n r → Keeps d codes n r
   keeps (Ok c) j = λ a b fs r. run_kept a b fs j.1 r

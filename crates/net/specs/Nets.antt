@@ -4,7 +4,7 @@ use Rattle.std.specs.Option.{option_map_or}
 use Rattle.domain.specs.declared.kind.Kind.{Kind}
 use Rattle.domain.specs.declared.kind.Kind.TheVariants.{Equal}
 use Rattle.format.specs.declared.command.Direction.{Direction}
-use Rattle.format.specs.Format.{depth, place_size}
+use Rattle.format.specs.Format.{depth, mode_count, place_size}
 use Rattle.term.specs.Meaning.{Bag, count, value}
 use Rattle.term.specs.Prefix.{bag_at, term_at}
 use Rattle.term.specs.Worth.{Marking, on_place}
@@ -51,6 +51,13 @@ abbrev pub mode_of : List ℕ → ℕ → List ℕ
 mode_of ns i =
     digit (i / slice_index ns 3 / slice_index ns 2 / slice_index ns 1) (slice_index ns 0) ∷ digit (i / slice_index ns 3 / slice_index ns 2) (slice_index ns 1)
     ∷ digit (i / slice_index ns 3) (slice_index ns 2) ∷ digit i (slice_index ns 3) ∷ []
+
+-- how many modes a transition has, and the mode of a number, the first variable slowest
+abbrev pub modes_of : SystemNet → ℕ → ℕ
+modes_of n t = mode_count (transition n t).sizes
+
+abbrev pub mode : SystemNet → ℕ → ℕ → List ℕ
+mode n t i = mode_of (transition n t).sizes i
 
 -- a mode gives each of the four variables an element of its sort, 0 where there is no variable
 pub record Mode (ns m : List ℕ) : Type 0 where
