@@ -1,10 +1,12 @@
 -- A net as it is built, command by command: what holds of it in each section of a file.
 use Rattle.std.proofs.Common.{◌≡◌, ℕ, ◌+◌, ◌*◌, ◌<◌, ◌≤◌, true, List, [], ◌∷◌, ◌++◌, length, set, ℤ, arith}
-use Rattle.domain.specs.Kinds.{kind_of, kind_weighs}
-use Rattle.format.specs.Commands.{arc, arguments_of, bag_operation, claim, element_weight, guard, operation, place, place_weight, sort, tokens, transition}
+use Rattle.domain.specs.declared.kind.Kind.{Kind}
+use Rattle.domain.specs.Kinds.{kind_weighs}
+use Rattle.format.specs.Commands.{arc, bag_operation, claim, element_weight, guard, operation, place, place_weight, sort, tokens, transition}
 use Rattle.format.specs.Format.{place_size}
 use Rattle.format.specs.declared.command.Direction.{Direction}
 use Rattle.format.specs.declared.section.Section.{Section}
+use Rattle.term.specs.declared.signature.Arguments.{Arguments}
 use Rattle.term.specs.Meaning.{BagOperation, Operation, Sig}
 use Rattle.net.specs.declared.parts.Claim.{Claim}
 use Rattle.net.specs.Nets.{no_claim}
@@ -52,10 +54,10 @@ module _ (s s' : Section) (n : SystemNet) (b : Built s n) where
       other_sig (record n.sig { sizes = n.sig.sizes ++ k ∷ [] }) (with_sort n.sig b.sig k low high room none no_bags)
       (marked_sort n.sig.sizes n.places n.initial b.marking (b.stage.places (omega arith)) (n.sig.sizes ++ k ∷ [])) (omega arith) (λ _. none) (λ _. no_bags)
 
-  pub add_operation : (k x y r : ℕ) (t : List ℕ) → SoundOperation n.sig.sizes (record { arguments = arguments_of k x y; result = r; table = t }) → length n.sig.operations < 32 → Opens 1 s s'
-      → Built s' (add n (operation k x y r t))
-  add_operation k x y r t h room o =
-      let new : Operation = record { arguments = arguments_of k x y; result = r; table = t } in
+  pub add_operation : (a : Arguments) (r : ℕ) (t : List ℕ) → SoundOperation n.sig.sizes (record { arguments = a; result = r; table = t }) → length n.sig.operations < 32 → Opens 1 s s'
+      → Built s' (add n (operation a r t))
+  add_operation a r t h room o =
+      let new : Operation = record { arguments = a; result = r; table = t } in
       let second : rank s' ≡ 1 = o.1 in
       other_sig (record n.sig { operations = n.sig.operations ++ new ∷ [] }) (with_operation n.sig b.sig new h room) b.marking o.0 (λ l. let z : ⊥ = omega arith in absurd z) (λ l. let z : ⊥ = omega arith in absurd z)
 
@@ -136,8 +138,8 @@ module _ (s s' : Section) (n : SystemNet) (b : Built s n) where
         };
       }
 
-  pub add_claim : (k m : ℕ) → length n.claims < 16 → Opens 4 s s' → Built s' (add n (claim k m))
-  add_claim k m room o = other_codings (add n (claim k m)).claims (codings_claim n.sig.sizes n.places n.claims b.codings room (kind_of k m)) o
+  pub add_claim : (k : Kind) → length n.claims < 16 → Opens 4 s s' → Built s' (add n (claim k))
+  add_claim k room o = other_codings (add n (claim k)).claims (codings_claim n.sig.sizes n.places n.claims b.codings room k) o
 
   pub add_place_weight : (p : ℕ) (c : ℤ) → kind_weighs (newest n.claims no_claim).kind c ≡ true → Opens 4 s s' → Built s' (add n (place_weight p c))
   add_place_weight p c h o = other_codings (add n (place_weight p c)).claims (codings_place n.sig.sizes n.places n.claims b.codings (small n.sig b.sig) p c h) o

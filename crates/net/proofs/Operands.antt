@@ -5,11 +5,13 @@ use Rattle.std.proofs.lemmas.List.{append-nil, drop_at, length-append, length-dr
 use Rattle.std.proofs.lemmas.List.Elements.{All-cons, All-drop, All-nil, All-take}
 use Rattle.std.proofs.lemmas.Bool.{and_parts, cond_both}
 use Rattle.std.proofs.lemmas.Option.{none-some}
-use Rattle.domain.specs.Kinds.{kind_weighs}
+use Rattle.domain.specs.Kinds.{kind_of, kind_weighs}
+use Rattle.domain.specs.declared.kind.Kind.{Kind}
 use Rattle.term.specs.Check.{Checked, bad, done}
 use Rattle.term.specs.Meaning.{Sig, bag_sorted, size_of, sorted}
 use Rattle.term.specs.Prefix.{Read, ReadBag, bag_at, term_at}
 use Rattle.term.specs.declared.fault.FileFault.{FileFault}
+use Rattle.term.specs.declared.signature.Arguments.{Arguments}
 use Rattle.format.specs.Commands.{Said, arc, arguments_of, bag_operation, claim, element_weight, end, fault, guard, operation, place, place_weight, said, sort, tokens, transition}
 use Rattle.format.specs.Commands as commands
 use Rattle.format.specs.Format.{Setting, arc_at, arc_bag, both, combinations, counts_at, first_bad, fitting, front_of, guard_term, mode_count, modulus_fits, neither, parse_at, place_size, signed, unless_bad, variable_sizes, with_table, with_term}
@@ -30,7 +32,7 @@ pub record Varied (sizes : List ℕ) (v : List ℕ) : Type 0 where
 -- what the format says under each code, in a file of bytes
 pub data Heard (x : Setting) : Code → Said → Type 0 where
   heard_sort : (n : ℕ) → 1 ≤ n → n ≤ 64 → Heard x code.Sort (sort n)
-  heard_operation : (n a b r : ℕ) (t : List ℕ) → SoundOperation x.signature.sizes (record { arguments = arguments_of n a b; result = r; table = t }) → Heard x code.Operation (operation n a b r t)
+  heard_operation : (a : Arguments) (r : ℕ) (t : List ℕ) → SoundOperation x.signature.sizes (record { arguments = a; result = r; table = t }) → Heard x code.Operation (operation a r t)
   heard_bag_operation : (a r : ℕ) (t : List ℕ) → SoundBagOperation x.signature.sizes (record { argument = a; result = r; table = t }) → Heard x code.BagOperation (bag_operation a r t)
   heard_place : (s : ℕ) → s < length x.signature.sizes → Heard x code.Place (place s)
   heard_tokens : (p e n : ℕ) → e < place_size x.signature.sizes x.places p → n < 65536 → Heard x code.Tokens (tokens p e n)
@@ -38,7 +40,7 @@ pub data Heard (x : Setting) : Code → Said → Type 0 where
   heard_guard : (t : List ℕ) → IsTerm x.signature x.variables 0 t → Heard x code.Guard (guard t)
   heard_in : (p : ℕ) (t : List ℕ) → SoundArc x.signature x.places x.variables (record { place = p; bag = t }) → Heard x code.InArc (arc direction.In p t)
   heard_out : (p : ℕ) (t : List ℕ) → SoundArc x.signature x.places x.variables (record { place = p; bag = t }) → Heard x code.OutArc (arc direction.Out p t)
-  heard_claim : (k m : ℕ) → Heard x code.Claim (claim k m)
+  heard_claim : (k : Kind) → Heard x code.Claim (claim k)
   heard_place_weight : (p : ℕ) (c : ℤ) → kind_weighs x.kind c ≡ true → Heard x code.PlaceWeight (place_weight p c)
   heard_element_weight : (p e : ℕ) (c : ℤ) → e < place_size x.signature.sizes x.places p → kind_weighs x.kind c ≡ true → Heard x code.ElementWeight (element_weight p e c)
   heard_end : Heard x code.End end
@@ -46,14 +48,14 @@ pub data Heard (x : Setting) : Code → Said → Type 0 where
 -- the bytes of a guard or a bag
 abbrev pub text : Said → List ℕ
 text (sort n) = []
-text (operation n a b r t) = []
+text (operation a r t) = []
 text (bag_operation a r t) = []
 text (place s) = []
 text (tokens p e n) = []
 text (transition v) = []
 text (guard t) = t
 text (arc d p t) = t
-text (claim k m) = []
+text (claim k) = []
 text (place_weight p c) = []
 text (element_weight p e c) = []
 text end = []
@@ -199,10 +201,10 @@ module _ (x : Setting) (bs : List ℕ) (bytes : Bytes bs) where
     where
       checked : at 1 ≤ 2 → fitting sizes (ltb 0 (at 1)) (at 2) ≡ true → fitting sizes (ltb 1 (at 1)) (at 3) ≡ true → 4 < length bs → at 4 < length sizes
           → (o : Option ℕ) → first_bad (size_of sizes (at 4)) (take (combinations sizes (arguments_of (at 1) (at 2) (at 3))) (drop 5 bs)) ≡ o
-          → Goal code.Operation (with_table (unless_bad o (drop 5 bs) x.ends (counts_at (drop 5 bs) x.ends (combinations sizes (arguments_of (at 1) (at 2) (at 3))))) (operation (at 1) (at 2) (at 3) (at 4)))
+          → Goal code.Operation (with_table (unless_bad o (drop 5 bs) x.ends (counts_at (drop 5 bs) x.ends (combinations sizes (arguments_of (at 1) (at 2) (at 3))))) (operation (arguments_of (at 1) (at 2) (at 3)) (at 4)))
       checked few f g long known None e =
           let k = combinations sizes (arguments_of (at 1) (at 2) (at 3)) in
-          tabled 5 k (operation (at 1) (at 2) (at 3) (at 4)) (omega arith) long refl (λ h. heard_operation (at 1) (at 2) (at 3) (at 4) (take k (drop 5 bs)) (record {
+          tabled 5 k (operation (arguments_of (at 1) (at 2) (at 3)) (at 4)) (omega arith) long refl (λ h. heard_operation (arguments_of (at 1) (at 2) (at 3)) (at 4) (take k (drop 5 bs)) (record {
             arguments = arguments_fit sizes (at 1) (at 2) (at 3) few f g;
             result = known;
             whole = h;
@@ -249,7 +251,7 @@ module _ (x : Setting) (bs : List ℕ) (bytes : Bytes bs) where
   taken code.Claim =
       let m = at 2 * 256 + at 3 in
       when _ (ltb 1 (length bs)) _ _ (λ l1. when _ (leb 1 (at 1) && leb (at 1) 6) _ _ (λ k. when _ (ltb 2 (length bs)) _ _ (λ l2. when _ (ltb 3 (length bs)) _ _ (λ l3. when _ (modulus_fits (at 1) m) _ _ (λ f.
-      plain 4 (claim (at 1) m) (omega arith) (ltb-true _ _ l3) refl (heard_claim (at 1) m))))))
+      plain 4 (claim (kind_of (at 1) m)) (omega arith) (ltb-true _ _ l3) refl (heard_claim (kind_of (at 1) m)))))))
   taken code.PlaceWeight =
       let c = signed (at 2) (at 3) (at 4) (at 5) in
       when _ (ltb 1 (length bs)) _ _ (λ l1. when _ (ltb (at 1) (length x.places)) _ _ (λ known. when _ (ltb 2 (length bs)) _ _ (λ l2. when _ (ltb 3 (length bs)) _ _ (λ l3. when _ (ltb 4 (length bs)) _ _ (λ l4. when _ (ltb 5 (length bs)) _ _ (λ l5.

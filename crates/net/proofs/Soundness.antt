@@ -65,14 +65,14 @@ Room n r = sum_by bytes_of n.transitions + length r ≤ 65536
 
 room : (n : SystemNet) (x : Said) (bs r : List ℕ) → Room n bs → length (text x) + length r < length bs → Room (add n x) r
 room n (sort k) bs r h l = omega arith
-room n (operation k a b c t) bs r h l = omega arith
+room n (operation a c t) bs r h l = omega arith
 room n (bag_operation a b t) bs r h l = omega arith
 room n (place s) bs r h l = omega arith
 room n (tokens p e k) bs r h l = omega arith
 room n (transition v) bs r h l = let e = bare_bytes n.sig.sizes n.transitions v in omega arith
 room n (guard t) bs r h l = let e = guard_bytes n.transitions t in omega arith
 room n (arc d p t) bs r h l = let e = arc_bytes n.transitions d (record { place = p; bag = t }) in omega arith
-room n (claim k m) bs r h l = omega arith
+room n (claim k) bs r h l = omega arith
 room n (place_weight p c) bs r h l = omega arith
 room n (element_weight p e c) bs r h l = omega arith
 room n end bs r h l = omega arith
@@ -95,7 +95,7 @@ module _ (s : Section) (n : SystemNet) (bs : List ℕ) (ends : ℕ) (g : Going s
   -- what a command that was read leads to
   carry : (t : Section) {c : Code} {x : Said} → Heard (setting n ends) c x → (r : List ℕ) → enters s c ≡ Some t → full n c ≡ false → Room (add n x) r → Bytes r → Steps (went t (add n x) x r)
   carry t (heard_sort k low high) r e f h q = record { built = add_sort s t n b k low high (leb-false 8 (length n.sig.sizes) f) (after_sorts s t e); short = h; bytes = q }
-  carry t (heard_operation k x y z l o) r e f h q = record { built = add_operation s t n b k x y z l o (leb-false 32 (length n.sig.operations) f) (after_operations s t e); short = h; bytes = q }
+  carry t (heard_operation a z l o) r e f h q = record { built = add_operation s t n b a z l o (leb-false 32 (length n.sig.operations) f) (after_operations s t e); short = h; bytes = q }
   carry t (heard_bag_operation x z l o) r e f h q = record { built = add_bag_operation s t n b x z l o (leb-false 8 (length n.sig.bags) f) (after_operations s t e); short = h; bytes = q }
   carry t (heard_place x known) r e f h q = record { built = add_place s t n b x known (leb-false 16 (length n.places) f) (after_places s t e); short = h; bytes = q }
   carry t (heard_tokens p i k on small) r e f h q = record { built = add_tokens s t n b p i k on small (after_places s t e); short = h; bytes = q }
@@ -103,7 +103,7 @@ module _ (s : Section) (n : SystemNet) (bs : List ℕ) (ends : ℕ) (g : Going s
   carry t (heard_guard l o) r e f h q = record { built = add_guard s t n b l o (after_guard s t e); short = h; bytes = q }
   carry t (heard_in p l o) r e f h q = record { built = add_arc s t n b direction.In p l o (leb-false 128 (arc_count n) f) (after_arc s t e); short = h; bytes = q }
   carry t (heard_out p l o) r e f h q = record { built = add_arc s t n b direction.Out p l o (leb-false 128 (arc_count n) f) (after_arc s t e); short = h; bytes = q }
-  carry t (heard_claim k m) r e f h q = record { built = add_claim s t n b k m (leb-false 16 (length n.claims) f) (after_claim s t e); short = h; bytes = q }
+  carry t (heard_claim k) r e f h q = record { built = add_claim s t n b k (leb-false 16 (length n.claims) f) (after_claim s t e); short = h; bytes = q }
   carry t (heard_place_weight p c w) r e f h q = record { built = add_place_weight s t n b p c w (after_weight s t e); short = h; bytes = q }
   carry t (heard_element_weight p i c on w) r e f h q = record { built = add_element_weight s t n b p i c on w (after_weight s t e); short = h; bytes = q }
   carry t heard_end r e f h q = sound_of s n b (omega arith)

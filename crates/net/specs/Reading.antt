@@ -1,12 +1,11 @@
 -- Which net a file tells, or which fault it has: the commands one after the other, each in the order of its bytes.
 use Rattle.std.specs.Prelude.{◌≡◌, ℕ, zero, suc, ◌+◌, ◌-◌, ◌*◌, Bool, false, cond, List, [], ◌∷◌, ◌++◌, length, replicate, ℤ, pos, Some, None, Ok, Err, Option, Result, nat_le, nat_lt, slice_index, slice_index_or, slice_set, sum_by}
-use Rattle.domain.specs.Kinds.{kind_of}
 use Rattle.domain.specs.declared.kind.Kind.{Kind}
 use Rattle.term.specs.declared.fault.Fault.TheVariants as fail
 use Rattle.term.specs.declared.fault.FileFault.{FileFault}
 use Rattle.term.specs.declared.fault.Stage.TheVariants as stage
 use Rattle.format.specs.Codes.{code_of}
-use Rattle.format.specs.Commands.{Read, Said, arc, arguments_of, bag_operation, claim, element_weight, end, fault, guard, operation, place, place_weight, said, sort, tokens, transition}
+use Rattle.format.specs.Commands.{Read, Said, arc, bag_operation, claim, element_weight, end, fault, guard, operation, place, place_weight, said, sort, tokens, transition}
 use Rattle.format.specs.Format.{Setting, in_command, parse_at, place_size, variable_sizes}
 use Rattle.term.specs.Check.{spot}
 use Rattle.format.specs.Order.{enters}
@@ -93,14 +92,14 @@ weighted n f = record n { claims = renew n.claims no_claim (coded f) }
 -- the net with a command carried out: guards and arcs are of the newest transition, weights are for the newest claim
 abbrev pub add : SystemNet → Said → SystemNet
 add n (sort k) = record n { sig = record n.sig { sizes = n.sig.sizes ++ k ∷ [] } }
-add n (operation k a b r t) = record n { sig = record n.sig { operations = n.sig.operations ++ (record { arguments = arguments_of k a b; result = r; table = t }) ∷ [] } }
+add n (operation a r t) = record n { sig = record n.sig { operations = n.sig.operations ++ (record { arguments = a; result = r; table = t }) ∷ [] } }
 add n (bag_operation a r t) = record n { sig = record n.sig { bags = n.sig.bags ++ (record { argument = a; result = r; table = t }) ∷ [] } }
 add n (place s) = record n { places = n.places ++ s ∷ [] }
 add n (tokens p e k) = record n { initial = slice_set n.initial (64 * p + e) k }
 add n (transition s) = record n { transitions = n.transitions ++ bare n.sig.sizes s ∷ [] }
 add n (guard t) = record n { transitions = renew n.transitions no_transition (guarded t) }
 add n (arc d p b) = record n { transitions = renew n.transitions no_transition (linked d (record { place = p; bag = b })) }
-add n (claim k m) = record n { claims = n.claims ++ unweighted (kind_of k m) ∷ [] }
+add n (claim k) = record n { claims = n.claims ++ unweighted k ∷ [] }
 add n (place_weight p c) = weighted n (put_row p (place_size n.sig.sizes n.places p) c)
 add n (element_weight p e c) = weighted n (λ xs. slice_set xs (64 * p + e) c)
 add n end = n

@@ -1,8 +1,7 @@
 // The parts of a net as it is read, command by command.
 ghost use Rattle.std.specs.Prelude.{◌≡◌, ◌-◌, ◌^◌, min, IfOk, OnOk, slice_set, vec_items};
-ghost use Rattle.domain.specs.Kinds.{kind_modulus, kind_number};
 ghost use Rattle.term.specs.Meaning.{of};
-ghost use Rattle.format.specs.Commands.{arc, arity, bag_operation, claim, element_weight, first, guard, operation, place_weight, said_of, second, tokens, transition};
+ghost use Rattle.format.specs.Commands.{arc, bag_operation, claim, element_weight, guard, operation, place_weight, said_of, tokens, transition};
 ghost use Rattle.format.specs.Format.{setting_of};
 ghost use Rattle.net.specs.Nets.{no_claim};
 ghost use Rattle.net.specs.Reading.{add, arc_count, arcs_in, coded, empty, full, guarded, linked, newest, setting, unweighted};
@@ -178,7 +177,7 @@ impl Parts {
         res: u8,
         table: &[u8],
     ) -> Result<(), AllocError>
-        ensures { OnOk result (told_by self.new ≡ add (told_by self.old) (operation (arity arguments) (first arguments) (second arguments) res table.now)) }
+        ensures { OnOk result (told_by self.new ≡ add (told_by self.old) (operation arguments res table.now)) }
     {
         let heap = *self.operations.allocator();
         self.operations.push(Operation {
@@ -241,7 +240,7 @@ impl Parts {
     }
 
     fn add_claim(&mut self, kind: Kind) -> Result<(), AllocError>
-        ensures { OnOk result (told_by self.new ≡ add (told_by self.old) (claim (kind_number kind) (kind_modulus kind))) }
+        ensures { OnOk result (told_by self.new ≡ add (told_by self.old) (claim kind)) }
     {
         self.claims.push(Claim::new(kind))?;
         Ok(())
