@@ -155,7 +155,7 @@ impl<'a> Context<'a> {
 
     // size, 1 to 64
     fn sort<'f>(&self, bytes: &'f [u8]) -> Parsed<'f>
-        ensures { Reads self.now bytes.now result (sort_at bytes.now self.now.checker.ends) }
+        ensures { Reads bytes.now result (sort_at bytes.now self.now.checker.ends) }
     {
         match bytes {
             [_, size, ..] if !(1..=64).contains(size) => self.out_of_range(bytes, 1),
@@ -186,7 +186,7 @@ impl<'a> Context<'a> {
 
     // number of arguments, two argument sorts, result sort, one result for each combination of arguments
     fn operation<'f>(&self, bytes: &'f [u8]) -> Parsed<'f>
-        ensures { Reads self.now bytes.now result (operation_at self.now.checker.signature.sizes.now bytes.now self.now.checker.ends) }
+        ensures { Reads bytes.now result (operation_at self.now.checker.signature.sizes.now bytes.now self.now.checker.ends) }
     {
         let sizes = self.checker.signature.sizes;
         match bytes {
@@ -217,7 +217,7 @@ impl<'a> Context<'a> {
 
     // argument sort, result sort, for each argument one count for each element of the result sort
     fn bag_operation<'f>(&self, bytes: &'f [u8]) -> Parsed<'f>
-        ensures { Reads self.now bytes.now result (bag_operation_at self.now.checker.signature.sizes.now bytes.now self.now.checker.ends) }
+        ensures { Reads bytes.now result (bag_operation_at self.now.checker.signature.sizes.now bytes.now self.now.checker.ends) }
     {
         let sizes = self.checker.signature.sizes;
         match bytes {
@@ -239,7 +239,7 @@ impl<'a> Context<'a> {
 
     // sort
     fn place<'f>(&self, bytes: &'f [u8]) -> Parsed<'f>
-        ensures { Reads self.now bytes.now result (place_at self.now.checker.signature.sizes.now bytes.now self.now.checker.ends) }
+        ensures { Reads bytes.now result (place_at self.now.checker.signature.sizes.now bytes.now self.now.checker.ends) }
     {
         match bytes {
             [_, sort, ..] if *sort as usize >= self.checker.signature.sizes.len() =>
@@ -251,7 +251,7 @@ impl<'a> Context<'a> {
 
     // place, element, two-byte count
     fn tokens<'f>(&self, bytes: &'f [u8]) -> Parsed<'f>
-        ensures { Reads self.now bytes.now result (tokens_at self.now.checker.signature.sizes.now self.now.places.now bytes.now self.now.checker.ends) }
+        ensures { Reads bytes.now result (tokens_at self.now.checker.signature.sizes.now self.now.places.now bytes.now self.now.checker.ends) }
     {
         match bytes {
             [_, place, ..] if self.lacks_place(*place) => self.out_of_range(bytes, 1),
@@ -272,7 +272,7 @@ impl<'a> Context<'a> {
 
     // number of variables, four sorts; the modes are counted at the last sort byte
     fn transition<'f>(&self, bytes: &'f [u8]) -> Parsed<'f>
-        ensures { Reads self.now bytes.now result (transition_at self.now.checker.signature.sizes.now bytes.now self.now.checker.ends) }
+        ensures { Reads bytes.now result (transition_at self.now.checker.signature.sizes.now bytes.now self.now.checker.ends) }
     {
         let sizes = self.checker.signature.sizes;
         match bytes {
@@ -296,7 +296,7 @@ impl<'a> Context<'a> {
 
     // a term of sort 0
     fn guard<'f>(&self, bytes: &'f [u8]) -> Parsed<'f>
-        ensures { Reads self.now bytes.now result (guard_at (of self.now.checker.signature) self.now.checker.variables.now bytes.now self.now.checker.ends) }
+        ensures { Reads bytes.now result (guard_at (of self.now.checker.signature) self.now.checker.variables.now bytes.now self.now.checker.ends) }
     {
         match bytes {
             [_, term @ ..] => {
@@ -312,7 +312,7 @@ impl<'a> Context<'a> {
 
     // place, a bag over its sort
     fn arc<'f>(&self, direction: Direction, bytes: &'f [u8]) -> Parsed<'f>
-        ensures { Reads self.now bytes.now result (arc_at (of self.now.checker.signature) self.now.places.now direction self.now.checker.variables.now bytes.now self.now.checker.ends) }
+        ensures { Reads bytes.now result (arc_at (of self.now.checker.signature) self.now.places.now direction self.now.checker.variables.now bytes.now self.now.checker.ends) }
     {
         match bytes {
             [_, place, ..] if self.lacks_place(*place) => self.out_of_range(bytes, 1),
@@ -332,7 +332,7 @@ impl<'a> Context<'a> {
 
     // kind, 1 to 6, two-byte modulus, which is 0 but for kind 4
     fn claim<'f>(&self, bytes: &'f [u8]) -> Parsed<'f>
-        ensures { Reads self.now bytes.now result (claim_at bytes.now self.now.checker.ends) }
+        ensures { Reads bytes.now result (claim_at bytes.now self.now.checker.ends) }
     {
         match bytes {
             [_, kind, ..] if *kind < 1 || *kind > 6 => self.out_of_range(bytes, 1),
@@ -349,7 +349,7 @@ impl<'a> Context<'a> {
 
     // place, four-byte signed code
     fn place_weight<'f>(&self, bytes: &'f [u8]) -> Parsed<'f>
-        ensures { Reads self.now bytes.now result (place_weight_at self.now.places.now self.now.kind bytes.now self.now.checker.ends) }
+        ensures { Reads bytes.now result (place_weight_at self.now.places.now self.now.kind bytes.now self.now.checker.ends) }
     {
         match bytes {
             [_, place, ..] if self.lacks_place(*place) => self.out_of_range(bytes, 1),
@@ -370,7 +370,7 @@ impl<'a> Context<'a> {
 
     // place, element, four-byte signed code
     fn element_weight<'f>(&self, bytes: &'f [u8]) -> Parsed<'f>
-        ensures { Reads self.now bytes.now result (element_weight_at self.now.checker.signature.sizes.now self.now.places.now self.now.kind bytes.now self.now.checker.ends) }
+        ensures { Reads bytes.now result (element_weight_at self.now.checker.signature.sizes.now self.now.places.now self.now.kind bytes.now self.now.checker.ends) }
     {
         match bytes {
             [_, place, ..] if self.lacks_place(*place) => self.out_of_range(bytes, 1),
@@ -395,7 +395,7 @@ impl<'a> Context<'a> {
 
     // nothing, and nothing may follow
     fn end<'f>(&self, bytes: &'f [u8]) -> Parsed<'f>
-        ensures { Reads self.now bytes.now result (end_at bytes.now self.now.checker.ends) }
+        ensures { Reads bytes.now result (end_at bytes.now self.now.checker.ends) }
     {
         match bytes {
             [_, _, ..] => Err(FileFault {
@@ -416,7 +416,7 @@ impl<'a> Context<'a> {
 
     // The command of the given code at the front of `bytes`, with its operands, and what follows it.
     pub fn parse<'f>(&self, code: Code, bytes: &'f [u8]) -> Parsed<'f>
-        ensures { Reads self.now bytes.now result (parse_at (setting_of self.now) code bytes.now) }
+        ensures { Reads bytes.now result (parse_at (setting_of self.now) code bytes.now) }
     {
         match code {
             Code::Sort => self.sort(bytes),
