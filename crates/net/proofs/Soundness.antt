@@ -16,7 +16,7 @@ use Rattle.net.specs.declared.reader.ReadError.{ReadError}
 use Rattle.net.specs.declared.reader.ReadError.TheVariants.{File, Memory}
 use Rattle.net.specs.Reading.{Opening, Reads, Step, Told, add, after, arc_count, carried, commands, empty, entered, full, known, last, next, opened, setting, step, stop, told, went}
 use Rattle.net.specs.Sound.{Bytes, Declared, Sound, SoundBagOperation, SoundOperation, SoundTransition, bytes_of}
-use Rattle.net.specs.System.{SystemNet}
+use Rattle.net.specs.System.{SystemNet, most_arcs, most_bag_operations, most_claims, most_operations, most_places, most_sorts, most_transitions}
 use Rattle.net.proofs.Built.{Built, add_arc, add_bag_operation, add_claim, add_element_weight, add_guard, add_operation, add_place, add_place_weight, add_sort, add_tokens, add_transition}
 use Rattle.net.proofs.Cells.{alike, cell}
 use Rattle.net.proofs.Codings.{Weighted}
@@ -94,16 +94,16 @@ module _ (s : Section) (n : SystemNet) (bs : List ℕ) (ends : ℕ) (g : Going s
 
   -- what a command that was read leads to
   carry : (t : Section) {c : Code} {x : Said} → Heard (setting n ends) c x → (r : List ℕ) → enters s c ≡ Some t → full n c ≡ false → Room (add n x) r → Bytes r → Steps (went t (add n x) x r)
-  carry t (heard_sort k low high) r e f h q = record { built = add_sort s t n b k low high (leb-false 8 (length n.sig.sizes) f) (after_sorts s t e); short = h; bytes = q }
-  carry t (heard_operation a z l o) r e f h q = record { built = add_operation s t n b a z l o (leb-false 32 (length n.sig.operations) f) (after_operations s t e); short = h; bytes = q }
-  carry t (heard_bag_operation x z l o) r e f h q = record { built = add_bag_operation s t n b x z l o (leb-false 8 (length n.sig.bags) f) (after_operations s t e); short = h; bytes = q }
-  carry t (heard_place x known) r e f h q = record { built = add_place s t n b x known (leb-false 16 (length n.places) f) (after_places s t e); short = h; bytes = q }
+  carry t (heard_sort k low high) r e f h q = record { built = add_sort s t n b k low high (leb-false most_sorts (length n.sig.sizes) f) (after_sorts s t e); short = h; bytes = q }
+  carry t (heard_operation a z l o) r e f h q = record { built = add_operation s t n b a z l o (leb-false most_operations (length n.sig.operations) f) (after_operations s t e); short = h; bytes = q }
+  carry t (heard_bag_operation x z l o) r e f h q = record { built = add_bag_operation s t n b x z l o (leb-false most_bag_operations (length n.sig.bags) f) (after_operations s t e); short = h; bytes = q }
+  carry t (heard_place x known) r e f h q = record { built = add_place s t n b x known (leb-false most_places (length n.places) f) (after_places s t e); short = h; bytes = q }
   carry t (heard_tokens p i k on small) r e f h q = record { built = add_tokens s t n b p i k on small (after_places s t e); short = h; bytes = q }
-  carry t (heard_transition v o) r e f h q = record { built = add_transition s t n b v o (leb-false 32 (length n.transitions) f) (after_transitions s t e); short = h; bytes = q }
+  carry t (heard_transition v o) r e f h q = record { built = add_transition s t n b v o (leb-false most_transitions (length n.transitions) f) (after_transitions s t e); short = h; bytes = q }
   carry t (heard_guard l o) r e f h q = record { built = add_guard s t n b l o (after_guard s t e); short = h; bytes = q }
-  carry t (heard_in p l o) r e f h q = record { built = add_arc s t n b direction.In p l o (leb-false 128 (arc_count n) f) (after_arc s t e); short = h; bytes = q }
-  carry t (heard_out p l o) r e f h q = record { built = add_arc s t n b direction.Out p l o (leb-false 128 (arc_count n) f) (after_arc s t e); short = h; bytes = q }
-  carry t (heard_claim k) r e f h q = record { built = add_claim s t n b k (leb-false 16 (length n.claims) f) (after_claim s t e); short = h; bytes = q }
+  carry t (heard_in p l o) r e f h q = record { built = add_arc s t n b direction.In p l o (leb-false most_arcs (arc_count n) f) (after_arc s t e); short = h; bytes = q }
+  carry t (heard_out p l o) r e f h q = record { built = add_arc s t n b direction.Out p l o (leb-false most_arcs (arc_count n) f) (after_arc s t e); short = h; bytes = q }
+  carry t (heard_claim k) r e f h q = record { built = add_claim s t n b k (leb-false most_claims (length n.claims) f) (after_claim s t e); short = h; bytes = q }
   carry t (heard_place_weight p c w) r e f h q = record { built = add_place_weight s t n b p c w (after_weight s t e); short = h; bytes = q }
   carry t (heard_element_weight p i c on w) r e f h q = record { built = add_element_weight s t n b p i c on w (after_weight s t e); short = h; bytes = q }
   carry t heard_end r e f h q = sound_of s n b (omega arith)

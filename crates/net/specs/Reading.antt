@@ -20,7 +20,7 @@ use Rattle.net.specs.declared.reader.ReadError.{ReadError}
 use Rattle.net.specs.declared.reader.ReadError.TheVariants.{File, Memory}
 use Rattle.net.specs.Nets.{no_claim}
 use Rattle.net.specs.Spans.{Arc}
-use Rattle.net.specs.System.{SystemNet, Transition, no_transition}
+use Rattle.net.specs.System.{SystemNet, Transition, most_arcs, most_bag_operations, most_claims, most_operations, most_places, most_sorts, most_transitions, no_transition}
 
 -- the net that the end alone tells: sort 0 with its two elements
 abbrev pub empty : SystemNet
@@ -47,16 +47,16 @@ arcs_in t = length t.takes + length t.puts
 abbrev pub arc_count : SystemNet → ℕ
 arc_count n = sum_by arcs_in n.transitions
 
--- one more would pass a limit: 7 sorts beside sort 0, 32 operations, 8 bag operations, 16 places, 32 transitions, 128 arcs, 16 claims
+-- one more would pass a limit
 abbrev pub full : SystemNet → Code → Bool
-full n code.Sort = nat_le 8 (length n.sig.sizes)
-full n code.Operation = nat_le 32 (length n.sig.operations)
-full n code.BagOperation = nat_le 8 (length n.sig.bags)
-full n code.Place = nat_le 16 (length n.places)
-full n code.Transition = nat_le 32 (length n.transitions)
-full n code.InArc = nat_le 128 (arc_count n)
-full n code.OutArc = nat_le 128 (arc_count n)
-full n code.Claim = nat_le 16 (length n.claims)
+full n code.Sort = nat_le most_sorts (length n.sig.sizes)
+full n code.Operation = nat_le most_operations (length n.sig.operations)
+full n code.BagOperation = nat_le most_bag_operations (length n.sig.bags)
+full n code.Place = nat_le most_places (length n.places)
+full n code.Transition = nat_le most_transitions (length n.transitions)
+full n code.InArc = nat_le most_arcs (arc_count n)
+full n code.OutArc = nat_le most_arcs (arc_count n)
+full n code.Claim = nat_le most_claims (length n.claims)
 full n c = false
 
 -- a transition without guard and arcs, where the sorts have these sizes

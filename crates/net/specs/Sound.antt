@@ -12,7 +12,7 @@ use Rattle.net.specs.declared.parts.Claim.{Claim}
 use Rattle.net.specs.Nets.{HasCell}
 use Rattle.net.specs.Reading.{arc_count}
 use Rattle.net.specs.Spans.{Arc, spans}
-use Rattle.net.specs.System.{SystemNet, Transition}
+use Rattle.net.specs.System.{SystemNet, Transition, most_arcs, most_bag_operations, most_claims, most_operations, most_places, most_sorts, most_transitions}
 use Rattle.net.specs.Written.{bag_bytes, term_bytes}
 
 -- each byte is below 256
@@ -84,29 +84,27 @@ bytes_of t = option_map_or length t.guard 0 + (spans t.takes + spans t.puts)
 
 -- a net within all limits of a net file, whose terms are of the right sorts
 pub record Sound (n : SystemNet) : Type 0 where
-  -- at most 8 sorts; sort 0 has two elements, and every sort 1 to 64
-  pub sorts : length n.sig.sizes ≤ 8
+  pub sorts : length n.sig.sizes ≤ most_sorts
+  -- sort 0 has two elements, and every sort 1 to 64
   pub truths : size_of n.sig.sizes 0 ≡ 2
   pub inhabited : All (λ k. 1 ≤ k) n.sig.sizes
   pub sizes : All (λ k. k ≤ 64) n.sig.sizes
-  -- at most 32 operations and 8 bag operations
-  pub few_operations : length n.sig.operations ≤ 32
+  pub few_operations : length n.sig.operations ≤ most_operations
   pub operations : All (SoundOperation n.sig.sizes) n.sig.operations
-  pub few_bags : length n.sig.bags ≤ 8
+  pub few_bags : length n.sig.bags ≤ most_bag_operations
   pub bags : All (SoundBagOperation n.sig.sizes) n.sig.bags
-  -- at most 16 places, of declared sorts
-  pub few_places : length n.places ≤ 16
+  pub few_places : length n.places ≤ most_places
   pub places : All (Declared n.sig.sizes) n.places
   -- the initial marking has 1,024 counts of 16 bits; one that is of no cell is 0
   pub marked : length n.initial ≡ 1024
   pub counts : All (λ k. k < 2 ^ 16) n.initial
   pub unmarked : (c : ℕ) → (HasCell n c → ⊥) → slice_index n.initial c ≡ 0
-  -- at most 32 transitions and 128 arcs; guards and bags have no more bytes than the longest file
-  pub few_transitions : length n.transitions ≤ 32
+  pub few_transitions : length n.transitions ≤ most_transitions
   pub transitions : All (SoundTransition n.sig n.places) n.transitions
-  pub few_arcs : arc_count n ≤ 128
+  pub few_arcs : arc_count n ≤ most_arcs
+  -- guards and bags have no more bytes than the longest file
   pub short : sum_by bytes_of n.transitions ≤ 65536
-  -- at most 16 claims; a code that is of no cell is 0
-  pub few_claims : length n.claims ≤ 16
+  pub few_claims : length n.claims ≤ most_claims
   pub claims : All SoundClaim n.claims
+  -- a code that is of no cell is 0
   pub uncoded : All (λ k. (c : ℕ) → (HasCell n c → ⊥) → slice_index_or k.codes c (pos 0) ≡ pos 0) n.claims

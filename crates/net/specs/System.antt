@@ -10,6 +10,29 @@ use Rattle.net.specs.declared.parts.Transition as parts
 abbrev pub cells : ℕ
 cells = 1024
 
+-- at most so many of each stand in a file; sort 0, which stands in none, is one of the sorts
+abbrev pub most_sorts : ℕ
+most_sorts = 8
+
+abbrev pub most_operations : ℕ
+most_operations = 32
+
+abbrev pub most_bag_operations : ℕ
+most_bag_operations = 8
+
+abbrev pub most_places : ℕ
+most_places = 16
+
+abbrev pub most_transitions : ℕ
+most_transitions = 32
+
+-- the arcs of all transitions together
+abbrev pub most_arcs : ℕ
+most_arcs = 128
+
+abbrev pub most_claims : ℕ
+most_claims = 16
+
 -- a transition: the sorts of its variables, how many elements each of four has (1 for an unused one), the bytes of its
 -- guard, and the arcs by which it takes and puts
 pub record Transition : Type 0 where
