@@ -128,6 +128,10 @@ variable_sizes sizes n s =
 abbrev pub mode_count : List ℕ → ℕ
 mode_count v = (slice_index v 0 * slice_index v 1) * (slice_index v 2 * slice_index v 3)
 
+-- the most modes that a transition may have
+abbrev pub most_modes : ℕ
+most_modes = 65536
+
 -- a transition: number of variables, four sorts, of which the first are those of the variables; the modes are counted at the last sort byte
 abbrev pub transition_at : List ℕ → List ℕ → ℕ → Read
 transition_at sizes bs ends =
@@ -136,7 +140,7 @@ transition_at sizes bs ends =
     (byte bs ends 3 (λ b. check (fitting sizes (nat_lt 1 n) b) fail.Range (spot bs ends 3)
     (byte bs ends 4 (λ c. check (fitting sizes (nat_lt 2 n) c) fail.Range (spot bs ends 4)
     (byte bs ends 5 (λ d. check (fitting sizes (nat_lt 3 n) d) fail.Range (spot bs ends 5)
-    (check (nat_le (mode_count (variable_sizes sizes n (a ∷ b ∷ c ∷ d ∷ []))) 65536) fail.Modes (spot bs ends 5)
+    (check (nat_le (mode_count (variable_sizes sizes n (a ∷ b ∷ c ∷ d ∷ []))) most_modes) fail.Modes (spot bs ends 5)
     (said (transition (take n (drop 2 bs))) (drop 6 bs))))))))))))
 
 -- the bytes of bs that stand before r, which is its end

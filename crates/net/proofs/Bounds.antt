@@ -5,14 +5,14 @@ use Rattle.std.proofs.lemmas.List.{length-append}
 use Rattle.std.proofs.lemmas.List.Elements.{All-nil, All-tail}
 use Rattle.std.proofs.lemmas.List.Sums.{get_or-le-sum_by, sum_by-cons, sum_by-le}
 use Rattle.std.proofs.lemmas.Bool.{cond_both}
-use Rattle.format.specs.Format.{mode_count}
+use Rattle.format.specs.Format.{mode_count, most_modes}
 use Rattle.format.specs.declared.command.Direction.{Direction}
 use Rattle.format.specs.declared.command.Direction.TheVariants as direction
 use Rattle.term.specs.Meaning.{Bag, Sig, Term, apply, bag_operation, both, constant, copies_in, count, empty, equal, flexible, negate, no_bag, single, size, sum, value, variable}
 use Rattle.net.specs.Nets.{arcs_of, bag_of, largest_side, part, side, transition}
 use Rattle.net.specs.Sound.{Bytes, Sound, SoundArc, SoundTransition, bytes_of}
 use Rattle.net.specs.Spans.{Arc, span, spans, towards}
-use Rattle.net.specs.System.{SystemNet, Transition, no_transition}
+use Rattle.net.specs.System.{SystemNet, Transition, longest_file, most_transitions, no_transition}
 use Rattle.net.specs.Written.{bag_bytes, term_bytes}
 use Rattle.net.proofs.Anywhere.{anywhere}
 use Rattle.net.proofs.Below.{truth_below}
@@ -36,9 +36,9 @@ sound_side s places t direction.In h = h.takes
 sound_side s places t direction.Out h = h.puts
 
 -- the bags of a transition that go one way have no more bytes than the longest file
-pub short_side : (n : SystemNet) → Sound n → (t : ℕ) (d : Direction) → spans (arcs_of n t d) ≤ 65536
+pub short_side : (n : SystemNet) → Sound n → (t : ℕ) (d : Direction) → spans (arcs_of n t d) ≤ longest_file
 short_side n sound t d =
-    let whole = anywhere (λ x. bytes_of x ≤ 65536) n.transitions no_transition (λ i e h. let x = get_or-le-sum_by bytes_of n.transitions i e h in let y = sound.short in omega arith) (omega arith) t in
+    let whole = anywhere (λ x. bytes_of x ≤ longest_file) n.transitions no_transition (λ i e h. let x = get_or-le-sum_by bytes_of n.transitions i e h in let y = sound.short in omega arith) (omega arith) t in
     let part = one_side (transition n t) d in
     omega arith
 
@@ -81,8 +81,8 @@ module _ (n : SystemNet) (sound : Sound n) (m : List ℕ) where
       none direction.Out = All-nil (SoundArc n.sig n.places [])
 
 -- the modes of all transitions
-pub few_modes : (n : SystemNet) → Sound n → sum_by (λ t. mode_count t.sizes) n.transitions ≤ 32 * 65536
+pub few_modes : (n : SystemNet) → Sound n → sum_by (λ t. mode_count t.sizes) n.transitions ≤ most_transitions * most_modes
 few_modes n sound =
-    let x = sum_by-le (λ t. mode_count t.sizes) 65536 n.transitions (λ i d h. (sound.transitions i d h).modes) in
+    let x = sum_by-le (λ t. mode_count t.sizes) most_modes n.transitions (λ i d h. (sound.transitions i d h).modes) in
     let y = sound.few_transitions in
     omega arith

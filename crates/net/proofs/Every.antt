@@ -6,20 +6,20 @@ use Rattle.std.proofs.Math.Bridge.{le_prop}
 use Rattle.std.proofs.Math.Nat.{ℕ_set}
 use Rattle.domain.specs.Kinds.{kind_weighs}
 use Rattle.domain.specs.declared.kind.Kind.{Kind}
-use Rattle.format.specs.Format.{mode_count}
+use Rattle.format.specs.Format.{mode_count, most_modes}
 use Rattle.format.specs.declared.command.Direction.{Direction}
 use Rattle.net.specs.declared.net.Net.{Net}
 use Rattle.net.specs.Nets.{ExactlyTallied, HasCell, IsKind, Mode, Tallied, arcs_of, codes_of, largest_side, no_claim, side, transition}
 use Rattle.net.specs.Of.{system}
 use Rattle.net.specs.Spans.{spans}
-use Rattle.net.specs.System.{no_transition}
+use Rattle.net.specs.System.{longest_file, most_transitions, no_transition}
 use Rattle.net.proofs.Anywhere.{anywhere}
 use Rattle.net.proofs.Bounds.{few, few_modes, short_side}
 use Rattle.net.proofs.Outside.{outside}
 
 module _ (n : Net) where
   -- the arcs of a transition that go one way have short bags
-  pub short_arcs : (t : ℕ) (d : Direction) → spans (arcs_of (system n) t d) ≤ 65536
+  pub short_arcs : (t : ℕ) (d : Direction) → spans (arcs_of (system n) t d) ≤ longest_file
   short_arcs t d = ∥∥₁_elim n.sound le_prop (λ s. short_side (system n) s t d)
 
   -- and few tokens in a cell
@@ -31,12 +31,12 @@ module _ (n : Net) where
   counted m t d xs ys h c l room = let e = h c l in let f = few_tokens m t c d in omega (arith, e)
 
   -- all transitions have few modes
-  pub modes_in_all : sum_by (λ t. mode_count t.sizes) (system n).transitions ≤ 32 * 65536
+  pub modes_in_all : sum_by (λ t. mode_count t.sizes) (system n).transitions ≤ most_transitions * most_modes
   modes_in_all = ∥∥₁_elim n.sound le_prop (λ s. few_modes (system n) s)
 
   -- a transition has few modes
-  pub modes_in_one : (t : ℕ) → mode_count (transition (system n) t).sizes ≤ 65536
-  modes_in_one t = ∥∥₁_elim n.sound le_prop (λ s. anywhere (λ x. mode_count x.sizes ≤ 65536) (system n).transitions no_transition (λ i d h. (s.transitions i d h).modes) (omega arith) t)
+  pub modes_in_one : (t : ℕ) → mode_count (transition (system n) t).sizes ≤ most_modes
+  modes_in_one t = ∥∥₁_elim n.sound le_prop (λ s. anywhere (λ x. mode_count x.sizes ≤ most_modes) (system n).transitions no_transition (λ i d h. (s.transitions i d h).modes) (omega arith) t)
 
   -- in a mode, a transition's arcs touch no cell that the net has not
   pub untouched : (m : List ℕ) (t c : ℕ) (d : Direction) → t < length (system n).transitions → Mode (transition (system n) t).sizes m → c < 1024 → (HasCell (system n) c → ⊥) → side (system n) m (arcs_of (system n) t d) c ≡ 0

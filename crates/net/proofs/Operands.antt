@@ -14,7 +14,7 @@ use Rattle.term.specs.declared.fault.FileFault.{FileFault}
 use Rattle.term.specs.declared.signature.Arguments.{Arguments}
 use Rattle.format.specs.Commands.{Said, arc, arguments_of, bag_operation, claim, element_weight, end, fault, guard, operation, place, place_weight, said, sort, tokens, transition}
 use Rattle.format.specs.Commands as commands
-use Rattle.format.specs.Format.{Setting, arc_at, arc_bag, both, combinations, counts_at, first_bad, fitting, front_of, guard_term, mode_count, modulus_fits, neither, parse_at, place_size, signed, unless_bad, variable_sizes, with_table, with_term}
+use Rattle.format.specs.Format.{Setting, arc_at, arc_bag, both, combinations, counts_at, first_bad, fitting, front_of, guard_term, mode_count, modulus_fits, most_modes, neither, parse_at, place_size, signed, unless_bad, variable_sizes, with_table, with_term}
 use Rattle.format.specs.declared.command.Code.{Code}
 use Rattle.format.specs.declared.command.Code.TheVariants as code
 use Rattle.format.specs.declared.command.Direction.{Direction}
@@ -23,11 +23,11 @@ use Rattle.net.specs.Sound.{ArgumentsDeclared, Bytes, IsBag, IsTerm, SoundArc, S
 use Rattle.net.specs.Written.{bag_bytes, term_bytes}
 use Rattle.net.proofs.Checked.{Leaves, Spelt, SpeltBag, bag_spelt, leave, own_front, term_spelt}
 
--- a transition has at most 4 variables, of declared sorts, and 65,536 modes
+-- a transition has at most 4 variables, of declared sorts, and not too many modes
 pub record Varied (sizes : List ℕ) (v : List ℕ) : Type 0 where
   pub few : length v ≤ 4
   pub sorts : All (λ k. k < length sizes) v
-  pub modes : mode_count (variable_sizes sizes (length v) v) ≤ 65536
+  pub modes : mode_count (variable_sizes sizes (length v) v) ≤ most_modes
 
 -- what the format says under each code, in a file of bytes
 pub data Heard (x : Setting) : Code → Said → Type 0 where
@@ -126,7 +126,7 @@ module _ (sizes : List ℕ) (a b c d : ℕ) (r : List ℕ) where
   P k = k < length sizes
 
   first_fit : (n : ℕ) → n ≤ 4 → fitting sizes (ltb 0 n) a ≡ true → fitting sizes (ltb 1 n) b ≡ true → fitting sizes (ltb 2 n) c ≡ true → fitting sizes (ltb 3 n) d ≡ true
-      → mode_count (variable_sizes sizes n (a ∷ b ∷ c ∷ d ∷ [])) ≤ 65536 → Varied sizes (take n (a ∷ b ∷ c ∷ d ∷ r))
+      → mode_count (variable_sizes sizes n (a ∷ b ∷ c ∷ d ∷ [])) ≤ most_modes → Varied sizes (take n (a ∷ b ∷ c ∷ d ∷ r))
   first_fit zero h p q s t m = record { few = omega arith; sorts = All-nil P; modes = m }
   first_fit (suc zero) h p q s t m = record { few = omega arith; sorts = All-cons P a [] (ltb-true _ _ p) (All-nil P); modes = m }
   first_fit (suc (suc zero)) h p q s t m = record { few = omega arith; sorts = All-cons P a (b ∷ []) (ltb-true _ _ p) (All-cons P b [] (ltb-true _ _ q) (All-nil P)); modes = m }
@@ -231,7 +231,7 @@ module _ (x : Setting) (bs : List ℕ) (bytes : Bytes bs) where
   taken code.Transition =
       when _ (ltb 1 (length bs)) _ _ (λ l1. when _ (leb (at 1) 4) _ _ (λ few. when _ (ltb 2 (length bs)) _ _ (λ l2. when _ (fitting sizes (ltb 0 (at 1)) (at 2)) _ _ (λ a.
       when _ (ltb 3 (length bs)) _ _ (λ l3. when _ (fitting sizes (ltb 1 (at 1)) (at 3)) _ _ (λ b. when _ (ltb 4 (length bs)) _ _ (λ l4. when _ (fitting sizes (ltb 2 (at 1)) (at 4)) _ _ (λ c.
-      when _ (ltb 5 (length bs)) _ _ (λ l5. when _ (fitting sizes (ltb 3 (at 1)) (at 5)) _ _ (λ d. when _ (leb (mode_count (variable_sizes sizes (at 1) (at 2 ∷ at 3 ∷ at 4 ∷ at 5 ∷ []))) 65536) _ _ (λ modes.
+      when _ (ltb 5 (length bs)) _ _ (λ l5. when _ (fitting sizes (ltb 3 (at 1)) (at 5)) _ _ (λ d. when _ (leb (mode_count (variable_sizes sizes (at 1) (at 2 ∷ at 3 ∷ at 4 ∷ at 5 ∷ []))) most_modes) _ _ (λ modes.
       let long : 6 ≤ length bs = ltb-true _ _ l5 in
       plain 6 (transition (take (at 1) (drop 2 bs))) (omega arith) long refl
       (heard_transition (take (at 1) (drop 2 bs)) (subst (λ (l : List ℕ). Varied sizes (take (at 1) l)) (sym (four bs long)) (first_fit sizes (at 2) (at 3) (at 4) (at 5) (drop 6 bs) (at 1) (leb-true _ _ few) a b c d (leb-true _ _ modes)))))))))))))))

@@ -16,7 +16,7 @@ use Rattle.net.specs.declared.reader.ReadError.{ReadError}
 use Rattle.net.specs.declared.reader.ReadError.TheVariants.{File, Memory}
 use Rattle.net.specs.Reading.{Opening, Reads, Step, Told, add, after, arc_count, carried, commands, empty, entered, full, known, last, next, opened, setting, step, stop, told, went}
 use Rattle.net.specs.Sound.{Bytes, Declared, Sound, SoundBagOperation, SoundOperation, SoundTransition, bytes_of}
-use Rattle.net.specs.System.{SystemNet, most_arcs, most_bag_operations, most_claims, most_operations, most_places, most_sorts, most_transitions}
+use Rattle.net.specs.System.{SystemNet, longest_file, most_arcs, most_bag_operations, most_claims, most_operations, most_places, most_sorts, most_transitions}
 use Rattle.net.proofs.Built.{Built, add_arc, add_bag_operation, add_claim, add_element_weight, add_guard, add_operation, add_place, add_place_weight, add_sort, add_tokens, add_transition}
 use Rattle.net.proofs.Cells.{alike, cell}
 use Rattle.net.proofs.Codings.{Weighted}
@@ -35,7 +35,7 @@ zero_off : {X : Type 0} (n : SystemNet) (xs : List X) (z : X) → length xs ≡ 
 zero_off n xs z long f c h = ⊎_elim (λ (l : c < 1024). f c (no_cell n c h l)) (λ (l : 1024 ≤ c). get_or_past xs c z (omega arith)) (cases_lt c 1024)
 
 -- a net that is built, with no more bytes of guards and bags than a file has, is sound
-sound_of : (s : Section) (n : SystemNet) → Built s n → sum_by bytes_of n.transitions ≤ 65536 → Sound n
+sound_of : (s : Section) (n : SystemNet) → Built s n → sum_by bytes_of n.transitions ≤ longest_file → Sound n
 sound_of s n b short = record {
   sorts = b.sig.sorts;
   truths = b.sig.truths;
@@ -61,7 +61,7 @@ sound_of s n b short = record {
 
 -- guards, bags and what is left of the file are no longer than a file
 abbrev Room : SystemNet → List ℕ → Type 0
-Room n r = sum_by bytes_of n.transitions + length r ≤ 65536
+Room n r = sum_by bytes_of n.transitions + length r ≤ longest_file
 
 room : (n : SystemNet) (x : Said) (bs r : List ℕ) → Room n bs → length (text x) + length r < length bs → Room (add n x) r
 room n (sort k) bs r h l = omega arith
@@ -171,8 +171,8 @@ sound_empty = sound_of section.Sorts empty built_empty (omega arith)
 
 told_sound : (file : List ℕ) → Bytes file → Tells (told file)
 told_sound file o =
-    cond_both (leb (length file) 65536) _ _ Tells
-    (λ h. all_commands (length file + 1) (length file) section.Sorts empty file (record { built = built_empty; short = omega (arith, leb-true (length file) 65536 h); bytes = o })) (λ _. tt)
+    cond_both (leb (length file) longest_file) _ _ Tells
+    (λ h. all_commands (length file + 1) (length file) section.Sorts empty file (record { built = built_empty; short = omega (arith, leb-true (length file) longest_file h); bytes = o })) (λ _. tt)
 
 -- every net that a file of bytes tells is sound
 pub sound : (file : List ℕ) → Bytes file → (n : SystemNet) → told file ≡ Ok n → Sound n

@@ -20,7 +20,7 @@ use Rattle.net.specs.declared.reader.ReadError.{ReadError}
 use Rattle.net.specs.declared.reader.ReadError.TheVariants.{File, Memory}
 use Rattle.net.specs.Nets.{no_claim}
 use Rattle.net.specs.Spans.{Arc}
-use Rattle.net.specs.System.{SystemNet, Transition, most_arcs, most_bag_operations, most_claims, most_operations, most_places, most_sorts, most_transitions, no_transition}
+use Rattle.net.specs.System.{SystemNet, Transition, longest_file, most_arcs, most_bag_operations, most_claims, most_operations, most_places, most_sorts, most_transitions, no_transition}
 
 -- the net that the end alone tells: sort 0 with its two elements
 abbrev pub empty : SystemNet
@@ -159,10 +159,10 @@ unfoldable pub commands : ℕ → ℕ → Section → SystemNet → List ℕ →
 commands zero ends s n bs = Err (in_command fail.Ends ends)
 commands (suc k) ends s n bs = after (commands k ends) (step s n bs ends)
 
--- the net that a file tells, or its fault; a file longer than 65,536 bytes is refused before all else
+-- the net that a file tells, or its fault; a file that is too long is refused before all else
 abbrev pub told : List ℕ → Told
 told file =
-    cond (nat_le (length file) 65536) (commands (length file + 1) (length file) section.Sorts empty file) (Err (record { fault = fail.TooLong; place = 65536; stage = stage.File }))
+    cond (nat_le (length file) longest_file) (commands (length file + 1) (length file) section.Sorts empty file) (Err (record { fault = fail.TooLong; place = longest_file; stage = stage.File }))
 
 -- what the reader answers at a code byte, with the section that is then open
 abbrev pub opens : Result Code FileFault → Section → Opening

@@ -3,7 +3,7 @@ use Rattle.std.specs.Prelude.{◌≡◌, ℕ, ◌+◌, ◌*◌, ◌^◌, ◌<◌
 use Rattle.std.specs.List.{All}
 use Rattle.std.specs.Option.{option_map_or}
 use Rattle.domain.specs.Kinds.{kind_weighs}
-use Rattle.format.specs.Format.{combinations, depth, mode_count, variable_sizes}
+use Rattle.format.specs.Format.{combinations, depth, mode_count, most_modes, variable_sizes}
 use Rattle.term.specs.declared.signature.Arguments.{Arguments}
 use Rattle.term.specs.declared.signature.Arguments.TheVariants as arguments
 use Rattle.term.specs.Meaning.{BagOperation, Operation, Sig, bag_sorted, size_of, sorted}
@@ -12,7 +12,7 @@ use Rattle.net.specs.declared.parts.Claim.{Claim}
 use Rattle.net.specs.Nets.{HasCell}
 use Rattle.net.specs.Reading.{arc_count}
 use Rattle.net.specs.Spans.{Arc, spans}
-use Rattle.net.specs.System.{SystemNet, Transition, most_arcs, most_bag_operations, most_claims, most_operations, most_places, most_sorts, most_transitions}
+use Rattle.net.specs.System.{SystemNet, Transition, longest_file, most_arcs, most_bag_operations, most_claims, most_operations, most_places, most_sorts, most_transitions}
 use Rattle.net.specs.Written.{bag_bytes, term_bytes}
 
 -- each byte is below 256
@@ -63,12 +63,12 @@ pub record SoundArc (s : Sig) (places vars : List ℕ) (a : Arc) : Type 0 where
   pub place : a.place < length places
   pub bag : IsBag s vars (slice_index places a.place) a.bag
 
--- a transition has at most 4 variables, of declared sorts, and at most 65,536 modes
+-- a transition has at most 4 variables, of declared sorts, and not too many modes
 pub record SoundTransition (s : Sig) (places : List ℕ) (t : Transition) : Type 0 where
   pub few : length t.sorts ≤ 4
   pub sorts : All (Declared s.sizes) t.sorts
   pub sizes : t.sizes ≡ variable_sizes s.sizes (length t.sorts) t.sorts
-  pub modes : mode_count t.sizes ≤ 65536
+  pub modes : mode_count t.sizes ≤ most_modes
   pub guard : SoundGuard s t.sorts t.guard
   pub takes : All (SoundArc s places t.sorts) t.takes
   pub puts : All (SoundArc s places t.sorts) t.puts
@@ -103,7 +103,7 @@ pub record Sound (n : SystemNet) : Type 0 where
   pub transitions : All (SoundTransition n.sig n.places) n.transitions
   pub few_arcs : arc_count n ≤ most_arcs
   -- guards and bags have no more bytes than the longest file
-  pub short : sum_by bytes_of n.transitions ≤ 65536
+  pub short : sum_by bytes_of n.transitions ≤ longest_file
   pub few_claims : length n.claims ≤ most_claims
   pub claims : All SoundClaim n.claims
   -- a code that is of no cell is 0

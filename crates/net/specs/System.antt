@@ -10,6 +10,10 @@ use Rattle.net.specs.declared.parts.Transition as parts
 abbrev pub cells : ℕ
 cells = 1024
 
+-- the number of bytes of the longest file
+abbrev pub longest_file : ℕ
+longest_file = 65536
+
 -- at most so many of each stand in a file; sort 0, which stands in none, is one of the sorts
 abbrev pub most_sorts : ℕ
 most_sorts = 8
