@@ -33,9 +33,13 @@ abbrev pub row_to : {V : Type 0} → Meaning V → List ℕ → List ℤ → ℕ
 row_to d counts codes zero = d.nil
 row_to d counts codes (suc k) = d.plus (row_to d counts codes k) (copies d (slice_index counts k) (d.weight (slice_index_or codes k (pos 0))))
 
--- how many places a row has: as many as have both a count and a code, and at most 255
+-- the most places that a row has, so that its sum stays small
+abbrev pub longest_row : ℕ
+longest_row = 255
+
+-- how many places a row has: as many as have both a count and a code, and at most the longest row
 abbrev pub places : List ℕ → List ℤ → ℕ
-places counts codes = min (min (length counts) (length codes)) 255
+places counts codes = min (min (length counts) (length codes)) longest_row
 
 -- the value of a row
 abbrev pub row_of : {V : Type 0} → Meaning V → List ℕ → List ℤ → V

@@ -1,6 +1,6 @@
 -- Markings and their value in a weight domain.
 use Rattle.std.specs.Prelude.{◌≡◌, ℕ, zero, suc, ◌+◌, ◌-◌, ◌*◌, ◌≤◌, cond, List, length, ℤ, pos, nat_le, slice_index_or}
-use Rattle.domain.specs.Meaning.{Meaning, copies, largest_sum, largest_weight}
+use Rattle.domain.specs.Meaning.{Meaning, copies, largest_sum, largest_weight, longest_row}
 use Rattle.term.specs.Meaning.{Bag, empty, single, sum, flexible}
 
 -- a marking gives each cell a count, without limit
@@ -35,9 +35,13 @@ module _ {V : Type 0} (d : Meaning V) (codes : List ℤ) where
   abbrev pub Weighs : V → Marking → ℕ → V → Type 0
   Weighs v m n r = d.holds v → d.size v + largest_weight * n ≤ largest_sum → Weighed v m n r
 
--- at most how many tokens a bag has; a table has counts below 256 for less than 256 elements
+-- the most tokens of one row of a table: counts below 256, for less than 256 elements
+abbrev pub largest_row : ℕ
+largest_row = 255 * longest_row
+
+-- at most how many tokens a bag has
 abbrev pub most : Bag → ℕ
 most empty = 0
 most (single t) = 1
 most (sum a b) = most a + most b
-most (flexible k t) = 65025
+most (flexible k t) = largest_row
