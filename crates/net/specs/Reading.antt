@@ -1,5 +1,5 @@
 -- Which net a file tells, or which fault it has: the commands one after the other, each in the order of its bytes.
-use Rattle.std.specs.Prelude.{◌≡◌, ℕ, zero, suc, ◌+◌, ◌-◌, ◌*◌, Bool, false, cond, List, [], ◌∷◌, ◌++◌, length, replicate, ℤ, pos, Some, None, Ok, Err, Option, Result, nat_le, nat_lt, slice_index, slice_index_or, slice_set, sum_by}
+use Rattle.std.specs.Prelude.{◌≡◌, ℕ, zero, suc, ◌+◌, ◌-◌, Bool, false, cond, List, [], ◌∷◌, ◌++◌, length, replicate, ℤ, pos, Some, None, Ok, Err, Option, Result, nat_le, nat_lt, slice_index, slice_index_or, slice_set, sum_by}
 use Rattle.domain.specs.declared.kind.Kind.{Kind}
 use Rattle.term.specs.declared.fault.Fault.TheVariants as fail
 use Rattle.term.specs.declared.fault.FileFault.{FileFault}
@@ -21,6 +21,7 @@ use Rattle.net.specs.declared.reader.ReadError.TheVariants.{File, Memory}
 use Rattle.net.specs.Nets.{no_claim}
 use Rattle.net.specs.Spans.{Arc}
 use Rattle.net.specs.System.{SystemNet, Transition, longest_file, most_arcs, most_bag_operations, most_claims, most_operations, most_places, most_sorts, most_transitions, no_transition}
+use Rattle.term.specs.Worth.{cell_at}
 
 -- the net that the end alone tells: sort 0 with its two elements
 abbrev pub empty : SystemNet
@@ -79,7 +80,7 @@ unweighted k = record { kind = k; codes = replicate 1024 (pos 0) }
 -- the codes of the first k elements of a place made c
 abbrev pub put_row : ℕ → ℕ → ℤ → List ℤ → List ℤ
 put_row p zero c xs = xs
-put_row p (suc k) c xs = slice_set (put_row p k c xs) (64 * p + k) c
+put_row p (suc k) c xs = slice_set (put_row p k c xs) (cell_at p k) c
 
 -- a claim with other codes
 abbrev pub coded : (List ℤ → List ℤ) → Claim → Claim
@@ -95,13 +96,13 @@ add n (sort k) = record n { sig = record n.sig { sizes = n.sig.sizes ++ k ∷ []
 add n (operation a r t) = record n { sig = record n.sig { operations = n.sig.operations ++ (record { arguments = a; result = r; table = t }) ∷ [] } }
 add n (bag_operation a r t) = record n { sig = record n.sig { bags = n.sig.bags ++ (record { argument = a; result = r; table = t }) ∷ [] } }
 add n (place s) = record n { places = n.places ++ s ∷ [] }
-add n (tokens p e k) = record n { initial = slice_set n.initial (64 * p + e) k }
+add n (tokens p e k) = record n { initial = slice_set n.initial (cell_at p e) k }
 add n (transition s) = record n { transitions = n.transitions ++ bare n.sig.sizes s ∷ [] }
 add n (guard t) = record n { transitions = renew n.transitions no_transition (guarded t) }
 add n (arc d p b) = record n { transitions = renew n.transitions no_transition (linked d (record { place = p; bag = b })) }
 add n (claim k) = record n { claims = n.claims ++ unweighted k ∷ [] }
 add n (place_weight p c) = weighted n (put_row p (place_size n.sig.sizes n.places p) c)
-add n (element_weight p e c) = weighted n (λ xs. slice_set xs (64 * p + e) c)
+add n (element_weight p e c) = weighted n (λ xs. slice_set xs (cell_at p e) c)
 add n end = n
 
 -- the code of the next command and the section that it opens, or the fault at its byte

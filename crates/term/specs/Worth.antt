@@ -7,7 +7,11 @@ use Rattle.term.specs.Meaning.{Bag, empty, single, sum, flexible}
 abbrev pub Marking : Type 0
 Marking = ℕ → ℕ
 
--- counts of the elements of a place, as a marking: cell 64 × place + element
+-- the number of the cell of a place and an element: each place has 64 cells
+abbrev pub cell_at : ℕ → ℕ → ℕ
+cell_at place element = 64 * place + element
+
+-- counts of the elements of a place, as a marking
 abbrev pub on_place : ℕ → (ℕ → ℕ) → Marking
 on_place place f c = cond (nat_le (64 * place) c) (f (c - 64 * place)) 0
 
