@@ -1,7 +1,7 @@
 -- The six kinds of claims: their numbers, their weights, and which of them measure. Assumes nothing.
 use Rattle.std.specs.Prelude.{◌≡◌, ℕ, Bool, true, false, cond, ℤ, Some, None, Option, ◌==◌, nat_le, refl}
 use Rattle.std.proofs.Common.{leb-true}
-use Rattle.domain.specs.Domains.{equal, modulo, never_rises, siphon, turned}
+use Rattle.domain.specs.Domains.{equal, largest_modulus, modulo, never_rises, siphon, turned}
 use Rattle.domain.specs.declared.kind.Kind.{Kind}
 use Rattle.domain.specs.declared.kind.Kind.TheVariants.{Equal, NeverRises, NeverFalls, Modulo, Trap, Siphon}
 
@@ -27,13 +27,13 @@ KindAt n k (Some x) = Numbered x n k
 KindAt n k None = (x : Kind) → Numbered x n k → ⊥
 
 -- the kind modulo k, where k can be a modulus
-abbrev pub modulo_by : (k : ℕ) (low high : Bool) → nat_le 2 k ≡ low → nat_le k 65535 ≡ high → Kind
-modulo_by k true true p q = Modulo (record { k = k; ok = (leb-true 2 k p, leb-true k 65535 q) })
+abbrev pub modulo_by : (k : ℕ) (low high : Bool) → nat_le 2 k ≡ low → nat_le k largest_modulus ≡ high → Kind
+modulo_by k true true p q = Modulo (record { k = k; ok = (leb-true 2 k p, leb-true k largest_modulus q) })
 modulo_by k true false p q = Equal
 modulo_by k false high p q = Equal
 
 abbrev pub modulo_kind : ℕ → Kind
-modulo_kind k = modulo_by k (nat_le 2 k) (nat_le k 65535) refl refl
+modulo_kind k = modulo_by k (nat_le 2 k) (nat_le k largest_modulus) refl refl
 
 -- the kind of a number and a modulus that a claim may have
 abbrev pub kind_of : ℕ → ℕ → Kind
