@@ -10,9 +10,8 @@ use Rattle.format.specs.declared.command.Direction.{Direction}
 use Rattle.format.specs.declared.command.Direction.TheVariants as direction
 use Rattle.term.specs.Meaning.{Bag, Sig, Term, apply, bag_operation, both, constant, copies_in, count, empty, equal, flexible, negate, no_bag, single, size, sum, value, variable}
 use Rattle.net.specs.Nets.{arcs_of, bag_of, largest_side, part, side, transition}
-use Rattle.net.specs.Sound.{Bytes, Sound, SoundArc, SoundTransition, bytes_of}
-use Rattle.net.specs.Spans.{Arc, span, spans, towards}
-use Rattle.net.specs.System.{SystemNet, Transition, longest_file, most_transitions, no_transition}
+use Rattle.net.specs.Sound.{Bytes, Sound, SoundArc, SoundTransition, bytes_of, span, spans}
+use Rattle.net.specs.System.{Arc, SystemNet, Transition, longest_file, most_transitions, no_transition, towards}
 use Rattle.net.specs.Written.{bag_bytes, term_bytes}
 use Rattle.net.proofs.Anywhere.{anywhere}
 use Rattle.net.proofs.Below.{truth_below}

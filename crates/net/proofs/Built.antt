@@ -10,9 +10,9 @@ use Rattle.term.specs.declared.signature.Arguments.{Arguments}
 use Rattle.term.specs.Meaning.{BagOperation, Operation, Sig}
 use Rattle.net.specs.declared.parts.Claim.{Claim}
 use Rattle.net.specs.Nets.{no_claim}
-use Rattle.net.specs.Reading.{add, arc_count, newest}
+use Rattle.net.specs.Reading.{add, newest}
 use Rattle.net.specs.Sound.{IsTerm, SoundArc, SoundBagOperation, SoundOperation}
-use Rattle.net.specs.System.{SystemNet, Transition, most_arcs, most_bag_operations, most_claims, most_operations, most_places, most_sorts, most_transitions, no_transition}
+use Rattle.net.specs.System.{SystemNet, Transition, arc_count, most_arcs, most_bag_operations, most_claims, most_operations, most_places, most_sorts, most_transitions, no_transition}
 use Rattle.net.proofs.Cells.{Marked, marked_place, marked_sort, marked_tokens}
 use Rattle.net.proofs.Codings.{Codings, codings_before, codings_claim, codings_element, codings_place}
 use Rattle.net.proofs.Moves.{Moves, moves_arc, moves_before, moves_guard, moves_transition}

@@ -11,11 +11,11 @@ use Rattle.format.specs.declared.command.Direction.{Direction}
 use Rattle.net.specs.declared.net.Net.{Net}
 use Rattle.net.specs.Nets.{ExactlyTallied, HasCell, IsKind, Mode, Tallied, arcs_of, codes_of, largest_side, no_claim, side, transition}
 use Rattle.net.specs.Of.{system}
-use Rattle.net.specs.Spans.{spans}
 use Rattle.net.specs.System.{longest_file, most_transitions, no_transition}
 use Rattle.net.proofs.Anywhere.{anywhere}
 use Rattle.net.proofs.Bounds.{few, few_modes, short_side}
 use Rattle.net.proofs.Outside.{outside}
+use Rattle.net.specs.Sound.{spans}
 
 module _ (n : Net) where
   -- the arcs of a transition that go one way have short bags

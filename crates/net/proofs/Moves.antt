@@ -7,10 +7,9 @@ use Rattle.std.proofs.lemmas.List.Sums.{sum_by_push}
 use Rattle.format.specs.declared.command.Direction.{Direction}
 use Rattle.format.specs.declared.command.Direction.TheVariants as direction
 use Rattle.term.specs.Meaning.{Sig}
-use Rattle.net.specs.Reading.{arcs_in, bare, guarded, linked, newest, renew}
-use Rattle.net.specs.Sound.{IsTerm, SoundArc, SoundTransition, bytes_of}
-use Rattle.net.specs.Spans.{Arc, span}
-use Rattle.net.specs.System.{Transition, most_arcs, most_transitions, no_transition}
+use Rattle.net.specs.Reading.{bare, guarded, linked, newest, renew}
+use Rattle.net.specs.Sound.{IsTerm, SoundArc, SoundTransition, bytes_of, span}
+use Rattle.net.specs.System.{Arc, Transition, arcs_in, most_arcs, most_transitions, no_transition}
 use Rattle.net.proofs.Newest.{renew_all, renew_sum}
 use Rattle.net.proofs.Operands.{Varied}
 

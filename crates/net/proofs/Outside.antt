@@ -8,8 +8,7 @@ use Rattle.format.specs.declared.command.Direction.{Direction}
 use Rattle.term.specs.Meaning.{size, size_of}
 use Rattle.net.specs.Nets.{HasCell, Mode, arcs_of, part, side, transition}
 use Rattle.net.specs.Sound.{Sound, SoundArc, SoundTransition}
-use Rattle.net.specs.Spans.{Arc}
-use Rattle.net.specs.System.{SystemNet, Transition, no_transition}
+use Rattle.net.specs.System.{Arc, SystemNet, Transition, no_transition}
 use Rattle.net.proofs.Anywhere.{anywhere}
 use Rattle.net.proofs.Below as below
 use Rattle.net.proofs.Bounds.{sound_side}

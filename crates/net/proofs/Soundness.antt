@@ -14,9 +14,9 @@ use Rattle.format.specs.declared.section.Section.TheVariants as section
 use Rattle.net.specs.Nets.{HasCell}
 use Rattle.net.specs.declared.reader.ReadError.{ReadError}
 use Rattle.net.specs.declared.reader.ReadError.TheVariants.{File, Memory}
-use Rattle.net.specs.Reading.{Opening, Reads, Step, Told, add, after, arc_count, carried, commands, empty, entered, full, known, last, next, opened, setting, step, stop, told, went}
+use Rattle.net.specs.Reading.{Opening, Reads, Step, Told, add, after, carried, commands, empty, entered, full, known, last, next, opened, setting, step, stop, told, went}
 use Rattle.net.specs.Sound.{Bytes, Declared, Sound, SoundBagOperation, SoundOperation, SoundTransition, bytes_of}
-use Rattle.net.specs.System.{SystemNet, longest_file, most_arcs, most_bag_operations, most_claims, most_operations, most_places, most_sorts, most_transitions}
+use Rattle.net.specs.System.{SystemNet, arc_count, longest_file, most_arcs, most_bag_operations, most_claims, most_operations, most_places, most_sorts, most_transitions}
 use Rattle.net.proofs.Built.{Built, add_arc, add_bag_operation, add_claim, add_element_weight, add_guard, add_operation, add_place, add_place_weight, add_sort, add_tokens, add_transition}
 use Rattle.net.proofs.Cells.{alike, cell}
 use Rattle.net.proofs.Codings.{Weighted}

@@ -1,4 +1,3 @@
-pub mod Spans
 pub mod System
 pub mod Nets
 pub mod Runs

@@ -1,5 +1,5 @@
 -- Which net a file tells, or which fault it has: the commands one after the other, each in the order of its bytes.
-use Rattle.std.specs.Prelude.{◌≡◌, ℕ, zero, suc, ◌+◌, ◌-◌, Bool, false, cond, List, [], ◌∷◌, ◌++◌, length, replicate, ℤ, pos, Some, None, Ok, Err, Option, Result, nat_le, nat_lt, slice_index, slice_index_or, slice_set, sum_by}
+use Rattle.std.specs.Prelude.{◌≡◌, ℕ, zero, suc, ◌+◌, ◌-◌, Bool, false, cond, List, [], ◌∷◌, ◌++◌, length, replicate, ℤ, pos, Some, None, Ok, Err, Option, Result, nat_le, nat_lt, slice_index, slice_index_or, slice_set}
 use Rattle.domain.specs.declared.kind.Kind.{Kind}
 use Rattle.term.specs.declared.fault.Fault.TheVariants as fail
 use Rattle.term.specs.declared.fault.FileFault.{FileFault}
@@ -19,8 +19,7 @@ use Rattle.net.specs.declared.parts.Claim.{Claim}
 use Rattle.net.specs.declared.reader.ReadError.{ReadError}
 use Rattle.net.specs.declared.reader.ReadError.TheVariants.{File, Memory}
 use Rattle.net.specs.Nets.{no_claim}
-use Rattle.net.specs.Spans.{Arc}
-use Rattle.net.specs.System.{SystemNet, Transition, longest_file, most_arcs, most_bag_operations, most_claims, most_operations, most_places, most_sorts, most_transitions, no_transition}
+use Rattle.net.specs.System.{Arc, SystemNet, Transition, arc_count, longest_file, most_arcs, most_bag_operations, most_claims, most_operations, most_places, most_sorts, most_transitions, no_transition}
 use Rattle.term.specs.Worth.{cell_at}
 
 -- the net that the end alone tells: sort 0 with its two elements
@@ -39,14 +38,6 @@ renew xs none f = slice_set xs (length xs - 1) (f (newest xs none))
 -- transition, and weights are for the newest claim
 abbrev pub setting : SystemNet → ℕ → Setting
 setting n ends = record { signature = n.sig; places = n.places; variables = (newest n.transitions no_transition).sorts; kind = (newest n.claims no_claim).kind; ends = ends }
-
--- how many arcs a transition has, both directions together
-abbrev pub arcs_in : Transition → ℕ
-arcs_in t = length t.takes + length t.puts
-
--- how many arcs there are
-abbrev pub arc_count : SystemNet → ℕ
-arc_count n = sum_by arcs_in n.transitions
 
 -- one more would pass a limit
 abbrev pub full : SystemNet → Code → Bool

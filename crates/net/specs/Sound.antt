@@ -10,9 +10,7 @@ use Rattle.term.specs.Meaning.{BagOperation, Operation, Sig, bag_sorted, size_of
 use Rattle.term.specs.Prefix.{bag_at, term_at}
 use Rattle.net.specs.declared.parts.Claim.{Claim}
 use Rattle.net.specs.Nets.{HasCell}
-use Rattle.net.specs.Reading.{arc_count}
-use Rattle.net.specs.Spans.{Arc, spans}
-use Rattle.net.specs.System.{SystemNet, Transition, longest_file, most_arcs, most_bag_operations, most_claims, most_operations, most_places, most_sorts, most_transitions}
+use Rattle.net.specs.System.{Arc, SystemNet, Transition, arc_count, longest_file, most_arcs, most_bag_operations, most_claims, most_operations, most_places, most_sorts, most_transitions}
 use Rattle.net.specs.Written.{bag_bytes, term_bytes}
 
 -- each byte is below 256
@@ -77,6 +75,14 @@ pub record SoundTransition (s : Sig) (places : List ℕ) (t : Transition) : Type
 pub record SoundClaim (k : Claim) : Type 0 where
   pub long : length k.codes ≡ 1024
   pub weights : All (λ c. kind_weighs k.kind c ≡ true) k.codes
+
+-- how many bytes the bag of an arc has
+abbrev pub span : Arc → ℕ
+span a = length a.bag
+
+-- how many bytes the bags of arcs have
+abbrev pub spans : List Arc → ℕ
+spans xs = sum_by span xs
 
 -- how many bytes a transition's guard and bags have
 abbrev pub bytes_of : Transition → ℕ

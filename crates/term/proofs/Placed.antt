@@ -7,7 +7,8 @@ use Rattle.domain.proofs.Copies.{copies_one}
 use Rattle.domain.proofs.Rows.{row_holds, row_size}
 use Rattle.term.specs.Adding.{neutral_right, value_none}
 use Rattle.term.proofs.Sums.{place_past}
-use Rattle.term.specs.Worth.{Marking, Weighs, largest_row, on_place, value_of, value_to, weight_of}
+use Rattle.term.specs.Worth.{Marking, Weighs, on_place, value_of, value_to, weight_of}
+use Rattle.term.specs.Meaning.{largest_row}
 
 module _ {V : Type 0} {d : Meaning V} (l : Laws d) (codes : List ℤ) (p : ℕ) (row : List ℕ) where
   abbrev there : List ℤ

@@ -1,7 +1,6 @@
 -- Markings and their value in a weight domain.
 use Rattle.std.specs.Prelude.{◌≡◌, ℕ, zero, suc, ◌+◌, ◌-◌, ◌*◌, ◌≤◌, cond, List, length, ℤ, pos, nat_le, slice_index_or}
-use Rattle.domain.specs.Meaning.{Meaning, copies, largest_sum, largest_weight, longest_row}
-use Rattle.term.specs.Meaning.{Bag, empty, single, sum, flexible}
+use Rattle.domain.specs.Meaning.{Meaning, copies, largest_sum, largest_weight}
 
 -- a marking gives each cell a count, without limit
 abbrev pub Marking : Type 0
@@ -38,14 +37,3 @@ module _ {V : Type 0} (d : Meaning V) (codes : List ℤ) where
   -- the same, wherever the sizes stay within what adding promises
   abbrev pub Weighs : V → Marking → ℕ → V → Type 0
   Weighs v m n r = d.holds v → d.size v + largest_weight * n ≤ largest_sum → Weighed v m n r
-
--- the most tokens of one row of a table: counts below 256, for less than 256 elements
-abbrev pub largest_row : ℕ
-largest_row = 255 * longest_row
-
--- at most how many tokens a bag has
-abbrev pub most : Bag → ℕ
-most empty = 0
-most (single t) = 1
-most (sum a b) = most a + most b
-most (flexible k t) = largest_row

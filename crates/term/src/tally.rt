@@ -3,7 +3,7 @@ ghost use Rattle.std.specs.Prelude.{◌≡◌, ℕ, ◌*◌, ◌<◌, if◌then�
 ghost use Rattle.term.specs.Adding.{counts_add, weights_add};
 ghost use Rattle.term.specs.Counts.{Added};
 ghost use Rattle.term.specs.Tally.{Adds, CountGains, WeightGains};
-ghost use Rattle.term.specs.Worth.{largest_row};
+ghost use Rattle.term.specs.Meaning.{largest_row};
 
 use crate::cells::cell;
 use domain::{WeightDomain, Weights, add_weight};

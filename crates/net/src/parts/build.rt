@@ -4,9 +4,8 @@ ghost use Rattle.term.specs.Meaning.{of};
 ghost use Rattle.format.specs.Commands.{arc, bag_operation, claim, element_weight, guard, operation, place_weight, said_of, tokens, transition};
 ghost use Rattle.format.specs.Format.{setting_of};
 ghost use Rattle.net.specs.Nets.{no_claim};
-ghost use Rattle.net.specs.Reading.{add, arc_count, arcs_in, coded, empty, full, guarded, linked, newest, setting, unweighted};
-ghost use Rattle.net.specs.Spans.{arc_told};
-ghost use Rattle.net.specs.System.{no_transition, told_by, transition_told};
+ghost use Rattle.net.specs.Reading.{add, coded, empty, full, guarded, linked, newest, setting, unweighted};
+ghost use Rattle.net.specs.System.{arc_count, arc_told, arcs_in, no_transition, told_by, transition_told};
 
 use super::{Arc, Claim, Parts, Transition};
 use crate::net::CELLS;

@@ -5,7 +5,7 @@ use Rattle.term.specs.Adding.{weighs_nothing}
 use Rattle.term.proofs.Placed.{weighs_row}
 use Rattle.term.proofs.Sums.{place_past}
 use Rattle.term.proofs.tally.WeighedTally.add_row.Goals as goal
-use Rattle.term.specs.Worth.{largest_row}
+use Rattle.term.specs.Meaning.{largest_row}
 
 pub returns-in_default : goal.returns-in_default
 returns-in_default g c =
