@@ -22,18 +22,17 @@ pub record WholeOrder (rel : ℤ → ℤ → Type 0) : Type 0 where
   pub plus : (u v w : ℤ) → rel v w → rel (u +ℤ v) (u +ℤ w)
   pub down : (v w : ℤ) → rel v w → w ≤ℤ v
 
-pub whole_laws : (rel : ℤ → ℤ → Type 0) → ((v : ℤ) → rel v v) → ((u v w : ℤ) → rel u v → rel v w → rel u w)
-    → ((u v w : ℤ) → rel v w → rel (u +ℤ v) (u +ℤ w)) → Laws (whole rel)
-whole_laws rel r t m = record {
+pub order_laws : {rel : ℤ → ℤ → Type 0} → WholeOrder rel → Laws (whole rel)
+order_laws o = record {
   nil_holds = tt;
   plus_holds = λ u v _ _. tt;
   weight_holds = λ c. tt;
   assoc = λ u v w _ _ _. +ℤ_assoc u v w;
   comm = λ u v _ _. +ℤ_comm u v;
   neutral = λ v _. +ℤ_idl v;
-  rel_refl = λ v _. r v;
-  rel_trans = λ u v w _ _ _. t u v w;
-  rel_plus = λ u v w _ _ _. m u v w;
+  rel_refl = λ v _. o.same v;
+  rel_trans = λ u v w _ _ _. o.trans u v w;
+  rel_plus = λ u v w _ _ _. o.plus u v w;
   code_zero = refl;
   weight_zero = refl;
   no_weight = no_weight;
@@ -41,9 +40,6 @@ whole_laws rel r t m = record {
   size_plus = λ u v _ _. size_plus u v;
   size_weight = size_weight;
 }
-
-pub order_laws : {rel : ℤ → ℤ → Type 0} → WholeOrder rel → Laws (whole rel)
-order_laws {rel} o = whole_laws rel o.same o.trans o.plus
 
 pub equal_relates : WholeOrder (λ v w. v ≡ w)
 equal_relates = record { same = λ v. refl; trans = λ u v w p q. p ∙ q; plus = λ u v w p. ap (λ x. u +ℤ x) p; down = λ v w p. omega (arith, ints, p) }
