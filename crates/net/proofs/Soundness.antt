@@ -13,7 +13,6 @@ use Rattle.format.specs.declared.section.Section.{Section}
 use Rattle.format.specs.declared.section.Section.TheVariants as section
 use Rattle.net.specs.Nets.{HasCell}
 use Rattle.net.specs.declared.reader.ReadError.{ReadError}
-use Rattle.net.specs.declared.reader.ReadError.TheVariants.{File, Memory}
 use Rattle.net.specs.Reading.{Opening, Reads, Step, Told, add, after, carried, commands, empty, entered, full, known, last, next, opened, setting, step, stop, told, went}
 use Rattle.net.specs.Sound.{Bytes, Declared, Sound, SoundBagOperation, SoundOperation, SoundTransition, bytes_of}
 use Rattle.net.specs.System.{SystemNet, arc_count, longest_file, most_arcs, most_bag_operations, most_claims, most_operations, most_places, most_sorts, most_transitions}
@@ -180,6 +179,5 @@ sound file o n e = subst Tells e (told_sound file o)
 
 -- and so is what the reader leaves
 pub reads_sound : (r : Result (Unit {0}) ReadError) (file : List ℕ) (n : SystemNet) → Bytes file → Reads r file n → Sound n
-reads_sound (Ok u) file n o h = sound file o n h
-reads_sound (Err (File e)) file n o h = subst Sound (sym h.1) sound_empty
-reads_sound (Err Memory) file n o h = subst Sound (sym h) sound_empty
+reads_sound (Ok u) file n o h = sound file o n h.0
+reads_sound (Err e) file n o h = subst Sound (sym h.1) sound_empty

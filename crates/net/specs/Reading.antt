@@ -1,5 +1,5 @@
 -- Which net a file tells, or which fault it has: the commands one after the other, each in the order of its bytes.
-use Rattle.std.specs.Prelude.{◌≡◌, ℕ, zero, suc, ◌+◌, ◌-◌, Bool, false, cond, List, [], ◌∷◌, ◌++◌, length, replicate, ℤ, pos, Some, None, Ok, Err, Option, Result, nat_le, nat_lt, slice_index, slice_index_or, slice_set}
+use Rattle.std.specs.Prelude.{Bool, Err, IfErr, List, None, Ok, Option, Result, Some, ℕ, ℤ, [], cond, false, length, nat_le, nat_lt, pos, replicate, slice_index, slice_index_or, slice_set, suc, zero, ◌++◌, ◌+◌, ◌-◌, ◌∷◌, ◌≡◌}
 use Rattle.domain.specs.declared.kind.Kind.{Kind}
 use Rattle.term.specs.declared.fault.Fault.TheVariants as fail
 use Rattle.term.specs.declared.fault.FileFault.{FileFault}
@@ -177,6 +177,4 @@ Fills (Err Memory) file n = Unit {0}
 -- a net read from a file, by the reader's answer: the net that the file tells, or the empty one, at the fault that the file
 -- has or for want of memory
 abbrev pub Reads : Result (Unit {0}) ReadError → List ℕ → SystemNet → Type 0
-Reads (Ok u) file n = told file ≡ Ok n
-Reads (Err (File e)) file n = (told file ≡ Err e) × (n ≡ empty)
-Reads (Err Memory) file n = n ≡ empty
+Reads r file n = Fills r file n × IfErr r (λ _. n ≡ empty)
