@@ -1,4 +1,4 @@
--- A loop over the pairs of a row. Assumes nothing.
+-- A loop over the pairs of a row.
 use Rattle.std.proofs.Common.{◌≡◌, ℕ, ◌<◌, List, length, take, get_or, Option, Some, None, ℤ, pos, ◌∙◌, arith, Bor}
 use Rattle.std.specs.declared.iter.Zip.{Zip}
 use Rattle.std.specs.declared.slice.Iter.{Iter}

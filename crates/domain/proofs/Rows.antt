@@ -1,4 +1,4 @@
--- Rows: places with counts and codes. Assumes nothing.
+-- Rows: places with counts and codes.
 use Rattle.std.proofs.Common.{◌≡◌, ℕ, zero, suc, ◌+◌, ◌*◌, ◌%◌, ◌<◌, ◌≤◌, Bool, ◌||◌, List, get_or, ℤ, pos, ◌+ℤ◌, ◌*ℤ◌, nat_abs, sym, refl, ap, ◌∙◌, subst, mul-le-mul_left, add-one, arith, w64, SFits, to_z, of_z}
 use native.Mathlib.Nat.{add-mod-mod, mod-add-mod}
 use Rattle.domain.specs.Domains.{equal, modulo, residue_weight, siphon, truth_weight, whole_weight}

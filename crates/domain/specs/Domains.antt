@@ -1,4 +1,4 @@
--- The meanings of the domains: whole numbers, residues and truth values, and a domain turned. Assumes nothing.
+-- The meanings of the domains: whole numbers, residues and truth values, and a domain turned.
 use Rattle.std.specs.Prelude.{◌≡◌, ℕ, ◌+◌, ◌%◌, ◌<◌, ◌≤◌, Bool, true, false, cond, ◌&&◌, ◌||◌, ℤ, pos, negsuc, ◌+ℤ◌, neg_ℤ, ◌≤ℤ◌, ◌==◌, int_le, nat_lt, unsigned_abs}
 use Rattle.domain.specs.Meaning.{Meaning, largest_weight}
 

@@ -1,11 +1,11 @@
--- The six kinds of claims: their numbers, their weights, and which of them measure. Assumes nothing.
+-- The six kinds of claims: their numbers, their weights, and which of them measure.
 use Rattle.std.specs.Prelude.{◌≡◌, ℕ, Bool, true, false, cond, ℤ, Some, None, Option, ◌==◌, nat_le, refl}
 use Rattle.std.proofs.Common.{leb-true}
 use Rattle.domain.specs.Domains.{equal, largest_modulus, modulo, never_rises, siphon, turned}
 use Rattle.domain.specs.declared.kind.Kind.{Kind}
 use Rattle.domain.specs.declared.kind.Kind.TheVariants.{Equal, NeverRises, NeverFalls, Modulo, Trap, Siphon}
 
--- the number that a kind has in a file, and the modulus beside it
+-- the number that a kind has in a file
 abbrev pub kind_number : Kind → ℕ
 kind_number Equal = 1
 kind_number NeverRises = 2
@@ -14,10 +14,12 @@ kind_number (Modulo m) = 4
 kind_number Trap = 5
 kind_number Siphon = 6
 
+-- the modulus beside it, 0 where the kind has none
 abbrev pub kind_modulus : Kind → ℕ
 kind_modulus (Modulo m) = m.k
 kind_modulus x = 0
 
+-- a kind stands in a file as this number and modulus
 abbrev pub Numbered : Kind → ℕ → ℕ → Type 0
 Numbered x n k = (n ≡ kind_number x) × (k ≡ kind_modulus x)
 

@@ -1,4 +1,4 @@
--- The laws of the whole numbers. Assumes nothing.
+-- The laws of the whole numbers.
 use Rattle.std.specs.Prelude.{◌≡◌, ◌+◌, ◌≤◌, false, ℤ, pos, ◌+ℤ◌, ◌≤ℤ◌, unsigned_abs, refl}
 use Rattle.std.proofs.Common.{ap, ◌∙◌, arith}
 use Rattle.std.proofs.Math.IntN.{+ℤ_comm, +ℤ_assoc, +ℤ_idl}
@@ -15,7 +15,7 @@ size_weight c = grind (arith, ints)
 no_weight : (c : ℤ) → whole_code c ≡ false → whole_weight c ≡ pos 0
 no_weight c h = rw h
 
--- a relation of whole numbers in a domain of theirs: an order that sums keep, within "at least"
+-- a relation of whole numbers that sums keep, reflexive, transitive, and only from a number to one that is not greater
 pub record WholeOrder (rel : ℤ → ℤ → Type 0) : Type 0 where
   pub same : (v : ℤ) → rel v v
   pub trans : (u v w : ℤ) → rel u v → rel v w → rel u w

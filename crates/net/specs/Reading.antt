@@ -105,6 +105,7 @@ abbrev pub entered : Option Section → SystemNet → Code → List ℕ → ℕ 
 entered None n c bs ends = Err (in_command fail.Order (spot bs ends 0))
 entered (Some s) n c bs ends = cond (full n c) (Err (in_command fail.Limit (spot bs ends 0))) (Ok (c, s))
 
+-- by the command that a code stands for, if there is one
 abbrev pub known : Option Code → Section → SystemNet → List ℕ → ℕ → Opening
 known None s n bs ends = Err (in_command fail.NoCommand (spot bs ends 0))
 known (Some c) s n bs ends = entered (enters s c) n c bs ends
@@ -124,6 +125,7 @@ abbrev pub went : Section → SystemNet → Said → List ℕ → Step
 went s n end r = last n
 went s n x r = next s n r
 
+-- a command that was read, carried out, or its fault
 abbrev pub carried : Section → SystemNet → Read → Step
 carried s n (said x r) = went s (add n x) x r
 carried s n (fault e) = stop e
@@ -141,6 +143,7 @@ step s n bs ends = opened (opening s n bs ends) n bs ends
 abbrev pub Told : Type 0
 Told = Result SystemNet FileFault
 
+-- what the file tells after a step: by f where it goes on
 abbrev pub after : (Section → SystemNet → List ℕ → Told) → Step → Told
 after f (next s n r) = f s n r
 after f (last n) = Ok n
@@ -161,20 +164,20 @@ abbrev pub opens : Result Code FileFault → Section → Opening
 opens (Ok c) s = Ok (c, s)
 opens (Err e) s = Err e
 
--- what the reader answers at a command: whether the file goes on, in a section, with a net and what is left; of want of
--- memory nothing is said
+-- what the reader answers at a command: whether the file goes on, in a section, with a net and what is left; where
+-- memory runs out nothing is said
 abbrev pub Steps : Result Bool ReadError → Section → SystemNet → List ℕ → Step → Type 0
 Steps (Ok more) s n r x = x ≡ cond more (next s n r) (last n)
 Steps (Err (File e)) s n r x = x ≡ stop e
 Steps (Err Memory) s n r x = Unit {0}
 
--- what the reader answers at a file, which a net tells or a fault; of want of memory nothing is said
+-- what the reader answers at a file, which tells a net or a fault; where memory runs out nothing is said
 abbrev pub Fills : Result (Unit {0}) ReadError → List ℕ → SystemNet → Type 0
 Fills (Ok u) file n = told file ≡ Ok n
 Fills (Err (File e)) file n = told file ≡ Err e
 Fills (Err Memory) file n = Unit {0}
 
--- a net read from a file, by the reader's answer: the net that the file tells, or the empty one, at the fault that the file
--- has or for want of memory
+-- a net read from a file, by the reader's answer: the net that the file tells, or the empty one, where the file
+-- has a fault or memory runs out
 abbrev pub Reads : Result (Unit {0}) ReadError → List ℕ → SystemNet → Type 0
 Reads r file n = Fills r file n × IfErr r (λ _. n ≡ empty)
