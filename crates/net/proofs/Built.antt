@@ -11,7 +11,7 @@ use Rattle.term.specs.Meaning.{BagOperation, Operation, Sig}
 use Rattle.net.specs.declared.parts.Claim.{Claim}
 use Rattle.net.specs.Nets.{no_claim}
 use Rattle.net.specs.Reading.{add, newest}
-use Rattle.net.specs.Sound.{IsTerm, SoundArc, SoundBagOperation, SoundOperation}
+use Rattle.net.specs.WellFormed.{IsTerm, WellFormedArc, WellFormedBagOperation, WellFormedOperation}
 use Rattle.net.specs.System.{SystemNet, Transition, arc_count, most_arcs, most_bag_operations, most_claims, most_operations, most_places, most_sorts, most_transitions, no_transition}
 use Rattle.net.proofs.Cells.{Marked, marked_place, marked_sort, marked_tokens}
 use Rattle.net.proofs.Codings.{Codings, codings_before, codings_claim, codings_element, codings_place}
@@ -54,14 +54,14 @@ module _ (s s' : Section) (n : SystemNet) (b : Built s n) where
       other_sig (record n.sig { sizes = n.sig.sizes ++ k ∷ [] }) (with_sort n.sig b.sig k low high room none no_bags)
       (marked_sort n.sig.sizes n.places n.initial b.marking (b.stage.places (omega arith)) (n.sig.sizes ++ k ∷ [])) (omega arith) (λ _. none) (λ _. no_bags)
 
-  pub add_operation : (a : Arguments) (r : ℕ) (t : List ℕ) → SoundOperation n.sig.sizes (record { arguments = a; result = r; table = t }) → length n.sig.operations < most_operations → Opens 1 s s'
+  pub add_operation : (a : Arguments) (r : ℕ) (t : List ℕ) → WellFormedOperation n.sig.sizes (record { arguments = a; result = r; table = t }) → length n.sig.operations < most_operations → Opens 1 s s'
       → Built s' (add n (operation a r t))
   add_operation a r t h room o =
       let new : Operation = record { arguments = a; result = r; table = t } in
       let second : rank s' ≡ 1 = o.1 in
       other_sig (record n.sig { operations = n.sig.operations ++ new ∷ [] }) (with_operation n.sig b.sig new h room) b.marking o.0 (λ l. let z : ⊥ = omega arith in absurd z) (λ l. let z : ⊥ = omega arith in absurd z)
 
-  pub add_bag_operation : (x r : ℕ) (t : List ℕ) → SoundBagOperation n.sig.sizes (record { argument = x; result = r; table = t }) → length n.sig.bags < most_bag_operations → Opens 1 s s' → Built s' (add n (bag_operation x r t))
+  pub add_bag_operation : (x r : ℕ) (t : List ℕ) → WellFormedBagOperation n.sig.sizes (record { argument = x; result = r; table = t }) → length n.sig.bags < most_bag_operations → Opens 1 s s' → Built s' (add n (bag_operation x r t))
   add_bag_operation x r t h room o =
       let new : BagOperation = record { argument = x; result = r; table = t } in
       let second : rank s' ≡ 1 = o.1 in
@@ -117,7 +117,7 @@ module _ (s s' : Section) (n : SystemNet) (b : Built s n) where
   pub add_guard : (t : List ℕ) → IsTerm n.sig (newest n.transitions no_transition).sorts 0 t → Opens 3 s s' → Built s' (add n (guard t))
   add_guard t h o = other_moves (add n (guard t)).transitions (moves_guard n.sig n.places n.transitions b.moves t h) o
 
-  pub add_arc : (d : Direction) (p : ℕ) (t : List ℕ) → SoundArc n.sig n.places (newest n.transitions no_transition).sorts (record { place = p; bag = t }) → arc_count n < most_arcs → Opens 3 s s' → Built s' (add n (arc d p t))
+  pub add_arc : (d : Direction) (p : ℕ) (t : List ℕ) → WellFormedArc n.sig n.places (newest n.transitions no_transition).sorts (record { place = p; bag = t }) → arc_count n < most_arcs → Opens 3 s s' → Built s' (add n (arc d p t))
   add_arc d p t h room o = other_moves (add n (arc d p t)).transitions (moves_arc n.sig n.places n.transitions b.moves d (record { place = p; bag = t }) room h) o
 
   -- claims and their codes

@@ -13,7 +13,7 @@ use Rattle.net.specs.Of.{system}
 use Rattle.net.specs.System.{Arc, SystemNet}
 use Rattle.net.proofs.Every.{short_arcs}
 use Rattle.net.proofs.Sides.{load, part_load}
-use Rattle.net.specs.Sound.{span, spans}
+use Rattle.net.specs.WellFormed.{span, spans}
 use Rattle.term.specs.Meaning.{largest_row, most_tokens}
 
 module _ (n : SystemNet) where

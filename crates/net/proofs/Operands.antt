@@ -19,7 +19,7 @@ use Rattle.format.specs.declared.command.Code.{Code}
 use Rattle.format.specs.declared.command.Code.TheVariants as code
 use Rattle.format.specs.declared.command.Direction.{Direction}
 use Rattle.format.specs.declared.command.Direction.TheVariants as direction
-use Rattle.net.specs.Sound.{ArgumentsDeclared, Bytes, IsBag, IsTerm, SoundArc, SoundBagOperation, SoundOperation}
+use Rattle.net.specs.WellFormed.{ArgumentsDeclared, Bytes, IsBag, IsTerm, WellFormedArc, WellFormedBagOperation, WellFormedOperation}
 use Rattle.net.specs.Written.{bag_bytes, term_bytes}
 use Rattle.net.proofs.Checked.{Leaves, Spelt, SpeltBag, bag_spelt, leave, own_front, term_spelt}
 
@@ -32,14 +32,14 @@ pub record Varied (sizes : List ℕ) (v : List ℕ) : Type 0 where
 -- what the format says under each code, in a file of bytes
 pub data Heard (x : Setting) : Code → Said → Type 0 where
   heard_sort : (n : ℕ) → 1 ≤ n → n ≤ 64 → Heard x code.Sort (sort n)
-  heard_operation : (a : Arguments) (r : ℕ) (t : List ℕ) → SoundOperation x.signature.sizes (record { arguments = a; result = r; table = t }) → Heard x code.Operation (operation a r t)
-  heard_bag_operation : (a r : ℕ) (t : List ℕ) → SoundBagOperation x.signature.sizes (record { argument = a; result = r; table = t }) → Heard x code.BagOperation (bag_operation a r t)
+  heard_operation : (a : Arguments) (r : ℕ) (t : List ℕ) → WellFormedOperation x.signature.sizes (record { arguments = a; result = r; table = t }) → Heard x code.Operation (operation a r t)
+  heard_bag_operation : (a r : ℕ) (t : List ℕ) → WellFormedBagOperation x.signature.sizes (record { argument = a; result = r; table = t }) → Heard x code.BagOperation (bag_operation a r t)
   heard_place : (s : ℕ) → s < length x.signature.sizes → Heard x code.Place (place s)
   heard_tokens : (p e n : ℕ) → e < place_size x.signature.sizes x.places p → n < 65536 → Heard x code.Tokens (tokens p e n)
   heard_transition : (v : List ℕ) → Varied x.signature.sizes v → Heard x code.Transition (transition v)
   heard_guard : (t : List ℕ) → IsTerm x.signature x.variables 0 t → Heard x code.Guard (guard t)
-  heard_in : (p : ℕ) (t : List ℕ) → SoundArc x.signature x.places x.variables (record { place = p; bag = t }) → Heard x code.InArc (arc direction.In p t)
-  heard_out : (p : ℕ) (t : List ℕ) → SoundArc x.signature x.places x.variables (record { place = p; bag = t }) → Heard x code.OutArc (arc direction.Out p t)
+  heard_in : (p : ℕ) (t : List ℕ) → WellFormedArc x.signature x.places x.variables (record { place = p; bag = t }) → Heard x code.InArc (arc direction.In p t)
+  heard_out : (p : ℕ) (t : List ℕ) → WellFormedArc x.signature x.places x.variables (record { place = p; bag = t }) → Heard x code.OutArc (arc direction.Out p t)
   heard_claim : (k : Kind) → Heard x code.Claim (claim k)
   heard_place_weight : (p : ℕ) (c : ℤ) → kind_weighs x.kind c ≡ true → Heard x code.PlaceWeight (place_weight p c)
   heard_element_weight : (p e : ℕ) (c : ℤ) → e < place_size x.signature.sizes x.places p → kind_weighs x.kind c ≡ true → Heard x code.ElementWeight (element_weight p e c)
@@ -182,7 +182,7 @@ module _ (x : Setting) (bs : List ℕ) (bytes : Bytes bs) where
   worded k s Q some there same (done r) h v = record { heard = v (front_of (drop k bs) r) h.0; shorter = omega (arith, same (front_of (drop k bs) r), length-drop k bs, h.1.long); rest = h.1.rest }
   worded k s Q some there same (bad e) h v = tt
 
-  arc_taken : (c : Code) (d : Direction) → ((p : ℕ) (t : List ℕ) → SoundArc x.signature x.places vars (record { place = p; bag = t }) → Heard x c (arc d p t)) → Goal c (arc_at x.signature x.places d vars bs x.ends)
+  arc_taken : (c : Code) (d : Direction) → ((p : ℕ) (t : List ℕ) → WellFormedArc x.signature x.places vars (record { place = p; bag = t }) → Heard x c (arc d p t)) → Goal c (arc_at x.signature x.places d vars bs x.ends)
   arc_taken c d heard =
       let want = get_or x.places (at 1) 0 in
       when _ (ltb 1 (length bs)) _ _ (λ l1. when _ (ltb (at 1) (length x.places)) _ _ (λ known.

@@ -4,4 +4,4 @@ pub mod Runs
 pub mod Reading
 pub mod Of
 pub mod Written
-pub mod Sound
+pub mod WellFormed

@@ -1,4 +1,4 @@
--- Every net that a file tells is sound.
+-- Every net that a file tells is well-formed.
 use Rattle.std.proofs.Common.{◌≡◌, ℕ, zero, suc, ◌+◌, ◌/◌, ◌%◌, ◌<◌, ◌≤◌, false, ltb, leb, List, [], ◌∷◌, length, get_or, pos, Some, None, Ok, Err, Option, Result, sum_by, sym, refl, subst, ⊎_elim, arith, leb-false, leb-true}
 use Rattle.std.proofs.lemmas.List.{get_or_past, length-replicate}
 use Rattle.std.proofs.lemmas.List.Elements.{All-cons, All-nil, All-replicate}
@@ -14,7 +14,7 @@ use Rattle.format.specs.declared.section.Section.TheVariants as section
 use Rattle.net.specs.Nets.{HasCell}
 use Rattle.net.specs.declared.reader.ReadError.{ReadError}
 use Rattle.net.specs.Reading.{Opening, Reads, Step, Told, add, after, carried, commands, empty, entered, full, known, last, next, opened, setting, step, stop, told, went}
-use Rattle.net.specs.Sound.{Bytes, Declared, Sound, SoundBagOperation, SoundOperation, SoundTransition, bytes_of}
+use Rattle.net.specs.WellFormed.{Bytes, Declared, WellFormed, WellFormedBagOperation, WellFormedOperation, WellFormedTransition, bytes_of}
 use Rattle.net.specs.System.{SystemNet, arc_count, longest_file, most_arcs, most_bag_operations, most_claims, most_operations, most_places, most_sorts, most_transitions}
 use Rattle.net.proofs.Built.{Built, add_arc, add_bag_operation, add_claim, add_element_weight, add_guard, add_operation, add_place, add_place_weight, add_sort, add_tokens, add_transition}
 use Rattle.net.proofs.Cells.{alike, cell}
@@ -33,9 +33,9 @@ no_cell n c h low = ⊎_elim
 zero_off : {X : Type 0} (n : SystemNet) (xs : List X) (z : X) → length xs ≡ 1024 → ((c : ℕ) → cell n.sig.sizes n.places c ≡ false → get_or xs c z ≡ z) → (c : ℕ) → (HasCell n c → ⊥) → get_or xs c z ≡ z
 zero_off n xs z long f c h = ⊎_elim (λ (l : c < 1024). f c (no_cell n c h l)) (λ (l : 1024 ≤ c). get_or_past xs c z (omega arith)) (cases_lt c 1024)
 
--- a net that is built, with no more bytes of guards and bags than a file has, is sound
-sound_of : (s : Section) (n : SystemNet) → Built s n → sum_by bytes_of n.transitions ≤ longest_file → Sound n
-sound_of s n b short = record {
+-- a net that is built, with no more bytes of guards and bags than a file has, is well-formed
+well_formed_of : (s : Section) (n : SystemNet) → Built s n → sum_by bytes_of n.transitions ≤ longest_file → WellFormed n
+well_formed_of s n b short = record {
   sorts = b.sig.sorts;
   truths = b.sig.truths;
   inhabited = b.sig.inhabited;
@@ -84,7 +84,7 @@ record Going (s : Section) (n : SystemNet) (r : List ℕ) : Type 0 where
 
 abbrev Steps : Step → Type 0
 Steps (next s n r) = Going s n r
-Steps (last n) = Sound n
+Steps (last n) = WellFormed n
 Steps (stop e) = Unit {0}
 
 module _ (s : Section) (n : SystemNet) (bs : List ℕ) (ends : ℕ) (g : Going s n bs) where
@@ -105,7 +105,7 @@ module _ (s : Section) (n : SystemNet) (bs : List ℕ) (ends : ℕ) (g : Going s
   carry t (heard_claim k) r e f h q = record { built = add_claim s t n b k (leb-false most_claims (length n.claims) f) (after_claim s t e); short = h; bytes = q }
   carry t (heard_place_weight p c w) r e f h q = record { built = add_place_weight s t n b p c w (after_weight s t e); short = h; bytes = q }
   carry t (heard_element_weight p i c on w) r e f h q = record { built = add_element_weight s t n b p i c on w (after_weight s t e); short = h; bytes = q }
-  carry t heard_end r e f h q = sound_of s n b (omega arith)
+  carry t heard_end r e f h q = well_formed_of s n b (omega arith)
 
   carries : (t : Section) (c : Code) → enters s c ≡ Some t → full n c ≡ false → (v : Read) → Holds (Taken (setting n ends) bs c) v → Steps (carried t n v)
   carries t c e f (said x r) k = carry t k.heard r e f (room n x bs r g.short k.shorter) k.rest
@@ -127,7 +127,7 @@ module _ (s : Section) (n : SystemNet) (bs : List ℕ) (ends : ℕ) (g : Going s
   steps = cond_both (ltb 0 (length bs)) _ _ Goes (λ _. knows (code_of (get_or bs 0 0))) (λ _. tt)
 
 abbrev Tells : Told → Type 0
-Tells (Ok n) = Sound n
+Tells (Ok n) = WellFormed n
 Tells (Err e) = Unit {0}
 
 goes_on : (f : Section → SystemNet → List ℕ → Told) → ((s : Section) (n : SystemNet) (r : List ℕ) → Going s n r → Tells (f s n r)) → (x : Step) → Steps x → Tells (after f x)
@@ -149,9 +149,9 @@ built_empty = record {
     inhabited = All-cons (λ k. 1 ≤ k) 2 [] (omega arith) (All-nil (λ k. 1 ≤ k));
     sizes = All-cons (λ k. k ≤ 64) 2 [] (omega arith) (All-nil (λ k. k ≤ 64));
     few_operations = omega arith;
-    operations = All-nil (SoundOperation (2 ∷ []));
+    operations = All-nil (WellFormedOperation (2 ∷ []));
     few_bags = omega arith;
-    bags = All-nil (SoundBagOperation (2 ∷ []));
+    bags = All-nil (WellFormedBagOperation (2 ∷ []));
   };
   marking = record {
     few = omega arith;
@@ -160,24 +160,24 @@ built_empty = record {
     small = All-replicate (λ k. k < 65536) 1024 0 (omega arith);
     none = λ c _. alike 0 1024 c;
   };
-  moves = record { few = omega arith; all = All-nil (SoundTransition empty.sig []); few_arcs = omega arith };
+  moves = record { few = omega arith; all = All-nil (WellFormedTransition empty.sig []); few_arcs = omega arith };
   codings = record { few = omega arith; all = All-nil (Weighted (2 ∷ []) []) };
   stage = record { operations = λ _. refl; bags = λ _. refl; places = λ _. refl; transitions = λ _. refl; claims = λ _. refl };
 }
 
-pub sound_empty : Sound empty
-sound_empty = sound_of section.Sorts empty built_empty (omega arith)
+pub well_formed_empty : WellFormed empty
+well_formed_empty = well_formed_of section.Sorts empty built_empty (omega arith)
 
-told_sound : (file : List ℕ) → Bytes file → Tells (told file)
-told_sound file o =
+told_well_formed : (file : List ℕ) → Bytes file → Tells (told file)
+told_well_formed file o =
     cond_both (leb (length file) longest_file) _ _ Tells
     (λ h. all_commands (length file + 1) (length file) section.Sorts empty file (record { built = built_empty; short = omega (arith, leb-true (length file) longest_file h); bytes = o })) (λ _. tt)
 
--- every net that a file of bytes tells is sound
-pub sound : (file : List ℕ) → Bytes file → (n : SystemNet) → told file ≡ Ok n → Sound n
-sound file o n e = subst Tells e (told_sound file o)
+-- every net that a file of bytes tells is well-formed
+pub well_formed : (file : List ℕ) → Bytes file → (n : SystemNet) → told file ≡ Ok n → WellFormed n
+well_formed file o n e = subst Tells e (told_well_formed file o)
 
 -- and so is what the reader leaves
-pub reads_sound : (r : Result (Unit {0}) ReadError) (file : List ℕ) (n : SystemNet) → Bytes file → Reads r file n → Sound n
-reads_sound (Ok u) file n o h = sound file o n h.0
-reads_sound (Err e) file n o h = subst Sound (sym h.1) sound_empty
+pub reads_well_formed : (r : Result (Unit {0}) ReadError) (file : List ℕ) (n : SystemNet) → Bytes file → Reads r file n → WellFormed n
+reads_well_formed (Ok u) file n o h = well_formed file o n h.0
+reads_well_formed (Err e) file n o h = subst WellFormed (sym h.1) well_formed_empty
