@@ -1,4 +1,4 @@
--- The largest number of copies, in whole numbers and in truth values. Assumes nothing.
+-- The largest number of copies, in whole numbers and in truth values.
 use Rattle.std.proofs.Common.{◌≡◌, ℕ, zero, suc, ◌-◌, ◌*◌, ◌/◌, ◌<◌, ◌≤◌, Bool, true, false, eqb, ℤ, pos, negsuc, ◌+ℤ◌, ◌≤ℤ◌, refl, ap, subst, div-lt_iff_lt-mul, div-mul-le_self, arith}
 use Rattle.std.proofs.lemmas.Int.{ints}
 use Rattle.domain.specs.Meaning.{copies}

@@ -1,8 +1,8 @@
--- Rows: places with counts and codes. Assumes nothing.
+-- Rows: places with counts and codes.
 use Rattle.std.proofs.Common.{◌≡◌, ℕ, zero, suc, ◌+◌, ◌*◌, ◌%◌, ◌<◌, ◌≤◌, Bool, ◌||◌, List, get_or, ℤ, pos, ◌+ℤ◌, ◌*ℤ◌, nat_abs, sym, refl, ap, ◌∙◌, subst, mul-le-mul_left, add-one, arith, w64, SFits, to_z, of_z}
 use native.Mathlib.Nat.{add-mod-mod, mod-add-mod}
 use Rattle.domain.specs.Domains.{equal, modulo, residue_weight, siphon, truth_weight, whole_weight}
-use Rattle.domain.specs.Meaning.{Added, Laws, Meaning, copies, largest_sum, largest_weight, places, row_of, row_to}
+use Rattle.domain.specs.Meaning.{Added, Laws, Meaning, copies, largest_sum, largest_weight, longest_row, places, row_of, row_to}
 use Rattle.domain.proofs.Copies.{copies_holds, copies_size}
 use Rattle.domain.proofs.Residues.{added}
 use Rattle.domain.specs.Truths.{assoc}
@@ -35,7 +35,7 @@ module _ {V : Type 0} {d : Meaning V} (l : Laws d) (counts : List ℕ) (codes : 
         omega (arith, l.size_plus (row_to d counts codes k) (copies d n w) (row_holds k) (place_holds k), copies_size l n w (l.weight_holds (get_or codes k (pos 0))), place_size k, row_size k)
 
     -- one place more is exact
-    pub more : (k n : ℕ) (r w s : V) → k < 255 → n ≡ get_or counts k 0 → w ≡ d.weight (get_or codes k (pos 0)) → r ≡ row_to d counts codes k → Added d r n w s → s ≡ row_to d counts codes (k + 1)
+    pub more : (k n : ℕ) (r w s : V) → k < longest_row → n ≡ get_or counts k 0 → w ≡ d.weight (get_or codes k (pos 0)) → r ≡ row_to d counts codes k → Added d r n w s → s ≡ row_to d counts codes (k + 1)
     more k n r w s short en ew er a =
         let at : Added d (row_to d counts codes k) (get_or counts k 0) (d.weight (get_or codes k (pos 0))) s
         = subst (λ (x : V). Added d x (get_or counts k 0) (d.weight (get_or codes k (pos 0))) s) er
@@ -48,7 +48,7 @@ module _ {V : Type 0} {d : Meaning V} (l : Laws d) (counts : List ℕ) (codes : 
 
 -- one place of a row of whole numbers: what the program reads there
 pub record Place (counts : List ℕ) (codes : List ℤ) (k : ℕ) (m w : ℤ) : Type 0 where
-  pub short : k < 255
+  pub short : k < longest_row
   pub bytes : (i : ℕ) → get_or counts i 0 < 256
   pub count : m ≡ pos (get_or counts k 0)
   pub count_fits : SFits w64 m

@@ -1,4 +1,4 @@
--- Copies of a truth value. Assumes nothing.
+-- Copies of a truth value.
 use Rattle.std.specs.Prelude.{◌≡◌, ℕ, zero, suc, ◌<◌, Bool, true, false, refl}
 use Rattle.std.proofs.Common.{arith}
 use Rattle.domain.specs.Meaning.{copies}

@@ -1,7 +1,7 @@
--- What a weight domain is: its meaning, its laws, and what each of its functions answers. Assumes nothing.
+-- What a weight domain is: its meaning, its laws, and what each of its functions answers.
 use Rattle.std.specs.Prelude.{◌≡◌, ℕ, zero, suc, ◌+◌, ◌*◌, ◌^◌, ◌<◌, ◌≤◌, min, Bool, true, false, List, length, ℤ, pos, slice_index, slice_index_or}
 
--- the meaning of a domain: its values, their zero, sum, relation and size, and which codes are weights, of which values
+-- the meaning of a domain: which v are its values (holds), their zero, sum, relation and size, and which codes are weights, of which values
 pub record Meaning (V : Type 0) : Type 1 where
   pub holds : V → Type 0
   pub nil : V
@@ -33,9 +33,13 @@ abbrev pub row_to : {V : Type 0} → Meaning V → List ℕ → List ℤ → ℕ
 row_to d counts codes zero = d.nil
 row_to d counts codes (suc k) = d.plus (row_to d counts codes k) (copies d (slice_index counts k) (d.weight (slice_index_or codes k (pos 0))))
 
--- how many places a row has: as many as have both a count and a code, and at most 255
+-- the most places that a row has, so that its sum stays small
+abbrev pub longest_row : ℕ
+longest_row = 255
+
+-- how many places a row has: as many as have both a count and a code, and at most the longest row
 abbrev pub places : List ℕ → List ℤ → ℕ
-places counts codes = min (min (length counts) (length codes)) 255
+places counts codes = min (min (length counts) (length codes)) longest_row
 
 -- the value of a row
 abbrev pub row_of : {V : Type 0} → Meaning V → List ℕ → List ℤ → V
@@ -51,7 +55,7 @@ pub record Added {V : Type 0} (d : Meaning V) (v : V) (n : ℕ) (w r : V) : Type
   pub exact : d.size v + n * d.size w ≤ largest_sum → r ≡ d.plus v (copies d n w)
   pub beyond : largest_sum < d.size v + n * d.size w → r ≡ d.nil
 
--- the laws: an ordered commutative monoid, with a code for zero, and sizes that bound sums and weights
+-- the laws: a preordered commutative monoid, with a code for zero, and sizes that bound sums and weights
 pub record Laws {V : Type 0} (d : Meaning V) : Type 0 where
   pub nil_holds : d.holds d.nil
   pub plus_holds : (u v : V) → d.holds u → d.holds v → d.holds (d.plus u v)

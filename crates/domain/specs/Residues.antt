@@ -1,4 +1,4 @@
--- The laws of the residues modulo k. Assumes nothing.
+-- The laws of the residues modulo k.
 use Rattle.std.specs.Prelude.{◌≡◌, ℕ, ◌+◌, ◌%◌, ◌<◌, ◌≤◌, true, false, ℤ, pos, negsuc, refl}
 use Rattle.std.proofs.Common.{sym, ap, ◌∙◌, mod-lt, add_assoc, add_comm, zero-add, mod-eq_of_lt, arith}
 use Rattle.std.proofs.Math.Nat.{add-mod-mod, mod-add-mod}

@@ -1,4 +1,4 @@
--- The laws of the truth values under "or". Assumes nothing.
+-- The laws of the truth values under "or".
 use Rattle.std.specs.Prelude.{◌≡◌, Bool, true, false, ◌||◌, ℤ, pos, negsuc, refl}
 use Rattle.std.proofs.Common.{arith}
 use Rattle.domain.specs.Meaning.{Laws}

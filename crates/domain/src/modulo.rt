@@ -1,5 +1,5 @@
 ghost use Rattle.std.specs.Prelude.{◌≡◌, ◌%◌, ◌≤◌, MatchOption};
-ghost use Rattle.domain.specs.Domains.{modulo, residue_weight};
+ghost use Rattle.domain.specs.Domains.{IsModulus, modulo, residue_weight};
 ghost use Rattle.domain.specs.Residues.{residue_laws};
 
 use crate::WeightDomain;
@@ -9,12 +9,12 @@ use crate::row::counted;
 #[derive(Clone, Copy, PartialEq, Eq, Debug)]
 pub struct Modulo {
     pub(crate) k: u32,
-    ghost ok: { (2 ≤ k) × (k ≤ 65535) },
+    ghost ok: { IsModulus k },
 }
 
 impl Modulo {
     pub fn new(k: u32) -> Option<Modulo>
-        ensures { MatchOption result ((2 ≤ k) × (k ≤ 65535) → ⊥) (λ m. m.k ≡ k) }
+        ensures { MatchOption result (IsModulus k → ⊥) (λ m. m.k ≡ k) }
     {
         if (2..=65535).contains(&k) {
             Some(Modulo { k })

@@ -1,4 +1,4 @@
--- Copies of a height. Assumes nothing.
+-- Copies of a height.
 use Rattle.std.specs.Prelude.{◌≡◌, ℕ, zero, suc, ◌<◌, ◌≤◌, max, refl, Some, None}
 use Rattle.std.proofs.Common.{ap, arith}
 use Rattle.domain.specs.Meaning.{Added, copies}

@@ -1,4 +1,4 @@
--- The laws of heights under the maximum. Assumes nothing.
+-- The laws of heights under the maximum.
 use Rattle.std.specs.Prelude.{◌≡◌, ℕ, false, ℤ, pos, negsuc, refl}
 use Rattle.std.proofs.Common.{ap, arith}
 use Rattle.domain.specs.Meaning.{Laws}

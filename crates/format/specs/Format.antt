@@ -5,7 +5,7 @@ use Rattle.std.specs.Int.{w32}
 use Rattle.std.specs.List.{position_from}
 use Rattle.std.proofs.Common.{to_z}
 use Rattle.std.specs.Borrow.{Bor}
-use Rattle.domain.specs.Kinds.{kind_weighs}
+use Rattle.domain.specs.Kinds.{kind_of, kind_weighs}
 use Rattle.domain.specs.declared.kind.Kind.{Kind}
 use Rattle.term.specs.Check.{Checked, done, bad, check_bag, check_term, spot}
 use Rattle.term.specs.declared.fault.Fault.{Fault}
@@ -93,7 +93,7 @@ operation_at sizes bs ends =
     (byte bs ends 2 (λ a. check (fitting sizes (nat_lt 0 n) a) fail.Range (spot bs ends 2)
     (byte bs ends 3 (λ b. check (fitting sizes (nat_lt 1 n) b) fail.Range (spot bs ends 3)
     (byte bs ends 4 (λ r. check (nat_lt r (length sizes)) fail.Range (spot bs ends 4)
-    (with_table (table_at (drop 5 bs) ends (combinations sizes (arguments_of n a b)) (size_of sizes r)) (operation n a b r)))))))))
+    (with_table (table_at (drop 5 bs) ends (combinations sizes (arguments_of n a b)) (size_of sizes r)) (operation (arguments_of n a b) r)))))))))
 
 -- a bag operation: argument sort, result sort, for each argument one count for each element of the result sort
 abbrev pub bag_operation_at : List ℕ → List ℕ → ℕ → Read
@@ -128,6 +128,10 @@ variable_sizes sizes n s =
 abbrev pub mode_count : List ℕ → ℕ
 mode_count v = (slice_index v 0 * slice_index v 1) * (slice_index v 2 * slice_index v 3)
 
+-- the most modes that a transition may have
+abbrev pub most_modes : ℕ
+most_modes = 65536
+
 -- a transition: number of variables, four sorts, of which the first are those of the variables; the modes are counted at the last sort byte
 abbrev pub transition_at : List ℕ → List ℕ → ℕ → Read
 transition_at sizes bs ends =
@@ -136,7 +140,7 @@ transition_at sizes bs ends =
     (byte bs ends 3 (λ b. check (fitting sizes (nat_lt 1 n) b) fail.Range (spot bs ends 3)
     (byte bs ends 4 (λ c. check (fitting sizes (nat_lt 2 n) c) fail.Range (spot bs ends 4)
     (byte bs ends 5 (λ d. check (fitting sizes (nat_lt 3 n) d) fail.Range (spot bs ends 5)
-    (check (nat_le (mode_count (variable_sizes sizes n (a ∷ b ∷ c ∷ d ∷ []))) 65536) fail.Modes (spot bs ends 5)
+    (check (nat_le (mode_count (variable_sizes sizes n (a ∷ b ∷ c ∷ d ∷ []))) most_modes) fail.Modes (spot bs ends 5)
     (said (transition (take n (drop 2 bs))) (drop 6 bs))))))))))))
 
 -- the bytes of bs that stand before r, which is its end
@@ -179,7 +183,7 @@ abbrev pub claim_at : List ℕ → ℕ → Read
 claim_at bs ends =
     byte bs ends 1 (λ k. check (nat_le 1 k && nat_le k 6) fail.Range (spot bs ends 1)
     (byte bs ends 2 (λ hi. byte bs ends 3 (λ lo. check (modulus_fits k (hi * 256 + lo)) fail.Range (spot bs ends 3)
-    (said (claim k (hi * 256 + lo)) (drop 4 bs))))))
+    (said (claim (kind_of k (hi * 256 + lo))) (drop 4 bs))))))
 
 -- four bytes, the high one first, as a signed number (two's complement)
 abbrev pub signed : ℕ → ℕ → ℕ → ℕ → ℤ

@@ -9,8 +9,7 @@ use Rattle.term.specs.Meaning.{Bag, count, value}
 use Rattle.term.specs.Prefix.{bag_at, term_at}
 use Rattle.term.specs.Worth.{Marking, on_place}
 use Rattle.net.specs.declared.parts.Claim.{Claim}
-use Rattle.net.specs.Spans.{Arc, towards}
-use Rattle.net.specs.System.{SystemNet, Transition, cells, no_transition}
+use Rattle.net.specs.System.{Arc, SystemNet, Transition, cells, no_transition, towards}
 
 abbrev pub transition : SystemNet → ℕ → Transition
 transition n t = slice_index_or n.transitions t no_transition

@@ -8,6 +8,7 @@ use Rattle.domain.proofs.Rows.{row_holds, row_size}
 use Rattle.term.specs.Adding.{neutral_right, value_none}
 use Rattle.term.proofs.Sums.{place_past}
 use Rattle.term.specs.Worth.{Marking, Weighs, on_place, value_of, value_to, weight_of}
+use Rattle.term.specs.Meaning.{largest_row}
 
 module _ {V : Type 0} {d : Meaning V} (l : Laws d) (codes : List ℤ) (p : ℕ) (row : List ℕ) where
   abbrev there : List ℤ
@@ -51,7 +52,7 @@ module _ {V : Type 0} {d : Meaning V} (l : Laws d) (codes : List ℤ) (p : ℕ) 
           ∙ ap (row_to d row there) {y = places row there} (omega (arith, short, few))
       by false q = let long : length there < length row = grind (arith, nat_tests, q) in ap (row_to d row there) {y = places row there} (omega (arith, long, few))
 
-  pub weighs_row : (v r : V) → 64 * p ≤ length codes → length row < 256 → ((i : ℕ) → get_or row i 0 < 256) → Added d v 1 (row_of d row there) r → Weighs d codes v counts 65025 r
+  pub weighs_row : (v r : V) → 64 * p ≤ length codes → length row < 256 → ((i : ℕ) → get_or row i 0 < 256) → Added d v 1 (row_of d row there) r → Weighs d codes v counts largest_row r
   weighs_row v r inside few bytes add h s =
       let w = row_of d row there in
       let hw : d.holds w = row_holds l row there (places row there) in

@@ -88,9 +88,9 @@ parts t (front arguments.None r) = done r
 parts t (front (arguments.One a) r) = t a r
 parts t (front (arguments.Two a b) r) = then (t a r) (t b)
 
--- a term of sort want, of at most the given depth
+-- a term of sort want, of at most the given depth; at depth 0 the front is a fault, so that no part is asked for
 abbrev pub check_term : Sig → List ℕ → ℕ → ℕ → ℕ → List ℕ → Checked
-check_term s vars ends zero want bs = parts (λ t r. bad (in_term fault.Deep 0)) (head_at s vars true want bs ends)
+check_term s vars ends zero want bs = parts (λ t r. done r) (head_at s vars true want bs ends)
 check_term s vars ends (suc d) want bs = parts (check_term s vars ends d) (head_at s vars false want bs ends)
 
 -- a byte of a bag, or the fault that the file ends
@@ -114,7 +114,7 @@ bag_front s t b deep want bs ends =
     (cond (c == 0x31) (t want (drop 1 bs))
     (cond (c == 0x32) (then (b (drop 1 bs)) b) (flexible_at s t want bs ends))))))
 
--- a bag over the sort want, of at most the given depth
+-- a bag over the sort want, of at most the given depth; at depth 0 no part of it is asked for either
 unfoldable pub check_bag : Sig → List ℕ → ℕ → ℕ → ℕ → List ℕ → Checked
 check_bag s vars ends zero want bs = bag_front s (λ t r. done r) (λ r. done r) true want bs ends
 check_bag s vars ends (suc d) want bs = bag_front s (check_term s vars ends d) (check_bag s vars ends d want) false want bs ends

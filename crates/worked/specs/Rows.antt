@@ -6,9 +6,9 @@ use Rattle.term.specs.Worth.{Marking}
 use Rattle.term.specs.declared.fault.Fault.{Fault}
 use Rattle.term.specs.declared.fault.FileFault.{FileFault}
 use Rattle.term.specs.declared.fault.Stage.{Stage}
-use Rattle.net.specs.Reading.{Told, arc_count, told}
+use Rattle.net.specs.Reading.{Told, told}
 use Rattle.net.specs.Runs.{Alike, Run, initial}
-use Rattle.net.specs.System.{SystemNet}
+use Rattle.net.specs.System.{SystemNet, arc_count}
 use Rattle.net.specs.declared.firing.Firing.{Firing}
 use Rattle.judge.specs.Calls.{Fits, Memory}
 use Rattle.judge.specs.Caps.{AskedByItsKind}

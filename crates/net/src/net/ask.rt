@@ -5,7 +5,7 @@ ghost use Rattle.term.specs.Worth.{value_of};
 ghost use Rattle.domain.specs.Meaning.{Tells};
 ghost use Rattle.net.specs.Nets.{ExactlyTallied, HasCell, IsKind, Mode, Tallied, arcs_of, codes_of, digit, given, guard_holds, largest_side, mode, mode_of, modes_of, side, taken, transition};
 ghost use Rattle.net.specs.Of.{system};
-ghost use Rattle.net.specs.Spans.{arc_told};
+ghost use Rattle.net.specs.System.{arc_told};
 
 use super::{CELLS, Net};
 use crate::firing::Firing;
