@@ -9,7 +9,7 @@ use Rattle.term.specs.Meaning.{Bag, count, value}
 use Rattle.term.specs.Prefix.{bag_at, term_at}
 use Rattle.term.specs.Worth.{Marking, on_place}
 use Rattle.net.specs.declared.parts.Claim.{Claim}
-use Rattle.net.specs.System.{Arc, SystemNet, Transition, cells, no_transition, towards}
+use Rattle.net.specs.System.{Arc, SystemNet, Transition, cells, longest_file, no_transition, towards}
 
 abbrev pub transition : SystemNet → ℕ → Transition
 transition n t = slice_index_or n.transitions t no_transition
@@ -70,9 +70,9 @@ pub record Mode (ns m : List ℕ) : Type 0 where
 abbrev pub Tallied : List ℕ → List ℕ → Marking → Type 0
 Tallied before after m = (c : ℕ) → c < length before → slice_index after c ≡ min (slice_index before c + m c) (2 ^ 32 - 1)
 
--- at most how many tokens the arcs of a transition that go one way have in a cell: 255 for each 4 of 65,536 bytes
+-- at most how many tokens the arcs of a transition that go one way have in a cell: 255 for each 4 bytes of a file
 abbrev pub largest_side : ℕ
-largest_side = 255 * (65536 / 4)
+largest_side = 255 * (longest_file / 4)
 
 -- a marking is added to counts, exactly, where there is room for the largest side
 abbrev pub ExactlyTallied : List ℕ → List ℕ → Marking → Type 0
