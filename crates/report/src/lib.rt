@@ -1,0 +1,4 @@
+// The report on a net file and a trace.
+#![tactic(auto)]
+
+mod lines;
