@@ -1,4 +1,5 @@
 // The report on a net file and a trace.
 #![tactic(auto)]
 
+mod build;
 mod lines;
