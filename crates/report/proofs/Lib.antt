@@ -1,1 +1,3 @@
 pub mod Orders
+pub mod Surveyed
+pub mod Replayed

@@ -1,14 +1,26 @@
 // The text of the report, built line by line.
-ghost use Rattle.std.specs.Prelude.{◌≡◌, ◌++◌, length, OnOk, string_bytes, slice_index, slice_index_or, Ok};
+ghost use Rattle.std.specs.Prelude.{◌≡◌, [], ◌++◌, length, OnOk, string_bytes, slice_index, slice_index_or, Ok};
 ghost use Rattle.std.specs.Fmt.{AppendsText, with_newline};
 ghost use Rattle.report.specs.Lines.{claim_line, replay_line};
-ghost use Rattle.report.specs.Report.{cell_shown, in_order, line};
+ghost use Rattle.lent.specs.Held.{held, memory};
+ghost use Rattle.net.specs.Of.{system};
+ghost use Rattle.judge.specs.Calls.{Fits, lent, net_of};
+ghost use Rattle.report.specs.Report.{Adds, AreClaimLines, AreReplayLines, cell_shown, in_order, line};
 
 use crate::lines::{CellLine, ClaimLine, ReplayLine};
-use judge::Outcome;
-use std::alloc::AllocError;
+use bench::Firing;
+use judge::{Judge, Outcome};
+use lent::list::LentList;
+use net::{CELLS, Net};
+use std::alloc::{AllocError, Global};
 use std::fmt;
-use trace::Replayed;
+use trace::{Replayed, replay};
+
+// How many claims a net has at most.
+const CLAIMS: usize = 16;
+
+// How many firings the trail can hold.
+const TRAIL: usize = 8192;
 
 // Adds a line and the line feed that ends it.
 fn add_line<L: fmt::Display + Drop>(text: &mut String, line: L) -> Result<(), AllocError>
@@ -59,4 +71,76 @@ fn add_cells(text: &mut String, counts: &[u16]) -> Result<(), AllocError>
         add_cell(text, cell, *count)?;
     }
     Ok(())
+}
+
+// Adds the lines of all claims, judged by their kinds in one survey onto an empty sheet.
+fn add_survey(
+    judge: &mut Judge,
+    sheet: &mut LentList<Outcome>,
+    text: &mut String,
+) -> Result<(), AllocError>
+    requires fits { Fits (lent judge.old) }
+    requires empty { held sheet.old ≡ [] }
+    requires room { length (memory sheet.old) ≡ 16 }
+    ensures { OnOk result (Adds (AreClaimLines (net_of judge.old)) (string_bytes text.old) (string_bytes text.new)) }
+{
+    match judge.survey(sheet) {
+        Ok(()) => add_outcomes(text, sheet.as_slice()),
+        // the memory fits and the sheet has room for all claims: no survey is refused
+        Err(_) => Ok(()),
+    }
+}
+
+// Adds the lines of all claims.
+pub fn add_claims(net: &Net, text: &mut String) -> Result<(), AllocError>
+    ensures { OnOk result (Adds (AreClaimLines (system net.now)) (string_bytes text.old) (string_bytes text.new)) }
+{
+    let mut codes = [0i32; CELLS];
+    let mut before = [0u32; CELLS];
+    let mut after = [0u32; CELLS];
+    let mut judge = Judge {
+        net,
+        codes: &mut codes,
+        before: &mut before,
+        after: &mut after,
+    };
+    let mut outcomes: [Outcome; CLAIMS] = [Ok(0); CLAIMS];
+    let mut sheet = LentList::new(&mut outcomes);
+    add_survey(&mut judge, &mut sheet, text)
+}
+
+// Adds the lines of the replay of a trace on a new bench, in memory of the stated lengths: how it ended, and the cells that
+// hold tokens after it.
+fn add_replay(
+    net: &Net,
+    counts: &mut [u16],
+    trail: &mut LentList<Firing>,
+    trace: &[u8],
+    text: &mut String,
+) -> Result<(), AllocError>
+    requires cells { length counts.old ≡ 1024 }
+    requires room { length (memory trail.old) ≡ 8192 }
+    ensures { OnOk result (Adds (AreReplayLines (system net.now) trace.now) (string_bytes text.old) (string_bytes text.new)) }
+{
+    match replay(net, counts, trail, trace) {
+        Ok(done) => {
+            add_replayed(text, done)?;
+            add_cells(text, counts)
+        }
+        // the counts are as many as there are cells: no replay is refused
+        Err(_) => Ok(()),
+    }
+}
+
+// Adds the lines of the replay of a trace.
+pub fn add_trace(heap: Global, net: &Net, trace: &[u8], text: &mut String) -> Result<(), AllocError>
+    ensures { OnOk result (Adds (AreReplayLines (system net.now) trace.now) (string_bytes text.old) (string_bytes text.new)) }
+{
+    let mut counts = [0u16; CELLS];
+    let mut memory = vec![in heap; Firing {
+        transition: 0,
+        mode: [0; 4]
+    }; TRAIL]?;
+    let mut trail = LentList::new(memory.as_mut_slice());
+    add_replay(net, &mut counts, &mut trail, trace, text)
 }
