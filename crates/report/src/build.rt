@@ -23,7 +23,7 @@ const CLAIMS: usize = 16;
 const TRAIL: usize = 8192;
 
 // Adds a line and the line feed that ends it.
-fn add_line<L: fmt::Display + Drop>(text: &mut String, line: L) -> Result<(), AllocError>
+pub(crate) fn add_line<L: fmt::Display + Drop>(text: &mut String, line: L) -> Result<(), AllocError>
     ensures { OnOk result (AppendsText (string_bytes text.old) (string_bytes text.new) (with_newline (L.output line))) }
 {
     writeln!(text, "{line}")
@@ -92,7 +92,7 @@ fn add_survey(
 }
 
 // Adds the lines of all claims.
-pub fn add_claims(net: &Net, text: &mut String) -> Result<(), AllocError>
+pub(crate) fn add_claims(net: &Net, text: &mut String) -> Result<(), AllocError>
     ensures { OnOk result (Adds (AreClaimLines (system net.now)) (string_bytes text.old) (string_bytes text.new)) }
 {
     let mut codes = [0i32; CELLS];
@@ -133,7 +133,7 @@ fn add_replay(
 }
 
 // Adds the lines of the replay of a trace.
-pub fn add_trace(heap: Global, net: &Net, trace: &[u8], text: &mut String) -> Result<(), AllocError>
+pub(crate) fn add_trace(heap: Global, net: &Net, trace: &[u8], text: &mut String) -> Result<(), AllocError>
     ensures { OnOk result (Adds (AreReplayLines (system net.now) trace.now) (string_bytes text.old) (string_bytes text.new)) }
 {
     let mut counts = [0u16; CELLS];

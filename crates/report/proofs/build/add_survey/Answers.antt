@@ -1,4 +1,4 @@
-use Rattle.std.proofs.Common.{Ok, string_bytes}
+use Rattle.std.proofs.Common.{string_bytes}
 use Rattle.std.proofs.lemmas.Result.{on_ok_weaker}
 use Rattle.judge.specs.Calls.{lent, net_of}
 use Rattle.report.proofs.Surveyed.{all_claims, never_refused}
