@@ -46,13 +46,6 @@ fn add_claim(text: &mut String, claim: usize, outcome: Outcome) -> Result<(), Al
     add_line(text, ClaimLine { claim, outcome })
 }
 
-// Adds the line of how a replay ended.
-fn add_replayed(text: &mut String, done: Replayed) -> Result<(), AllocError>
-    ensures { OnOk result (string_bytes text.new ≡ string_bytes text.old ++ line (replay_line done)) }
-{
-    add_line(text, ReplayLine(done))
-}
-
 // Adds the lines of claims with these outcomes, counted from 0.
 fn add_outcomes(text: &mut String, outcomes: &[Outcome]) -> Result<(), AllocError>
     ensures { OnOk result (string_bytes text.new ≡ string_bytes text.old ++ in_order (λ i. line (claim_line i (slice_index_or outcomes.now i (Ok 0)))) (length outcomes.now)) }
@@ -71,6 +64,14 @@ fn add_cells(text: &mut String, counts: &[u16]) -> Result<(), AllocError>
         add_cell(text, cell, *count)?;
     }
     Ok(())
+}
+
+// Adds the lines of a replay that ended so and left these counts.
+fn add_replayed(text: &mut String, done: Replayed, counts: &[u16]) -> Result<(), AllocError>
+    ensures { OnOk result (string_bytes text.new ≡ string_bytes text.old ++ (line (replay_line done) ++ in_order (λ c. cell_shown c (slice_index counts.now c)) (length counts.now))) }
+{
+    add_line(text, ReplayLine(done))?;
+    add_cells(text, counts)
 }
 
 // Adds the lines of all claims, judged by their kinds in one survey onto an empty sheet.
@@ -123,17 +124,19 @@ fn add_replay(
     ensures { OnOk result (Adds (AreReplayLines (system net.now) trace.now) (string_bytes text.old) (string_bytes text.new)) }
 {
     match replay(net, counts, trail, trace) {
-        Ok(done) => {
-            add_replayed(text, done)?;
-            add_cells(text, counts)
-        }
+        Ok(done) => add_replayed(text, done, counts),
         // the counts are as many as there are cells: no replay is refused
         Err(_) => Ok(()),
     }
 }
 
 // Adds the lines of the replay of a trace.
-pub(crate) fn add_trace(heap: Global, net: &Net, trace: &[u8], text: &mut String) -> Result<(), AllocError>
+pub(crate) fn add_trace(
+    heap: Global,
+    net: &Net,
+    trace: &[u8],
+    text: &mut String,
+) -> Result<(), AllocError>
     ensures { OnOk result (Adds (AreReplayLines (system net.now) trace.now) (string_bytes text.old) (string_bytes text.new)) }
 {
     let mut counts = [0u16; CELLS];

@@ -5,10 +5,9 @@ use Rattle.trace.specs.Replaying.{lends}
 use Rattle.report.proofs.Replayed.{all_replayed}
 use Rattle.report.proofs.build.add_replay.Goals as goal
 
-pub returns-in_ok-add_replayed-in-Ok : goal.returns-in_ok-add_replayed-in-Ok
-returns-in_ok-add_replayed-in-Ok c =
+pub returns-in-Ok : goal.returns-in-Ok
+returns-in-Ok c =
     on_ok_weaker _
     (all_replayed (system c.args.net.now) c.args.trace.now (lends c.args.counts.now c.args.trail.now) (lends c.replay.new.cells c.replay.new.trail) c.in-Ok.done
-    (string_bytes c.args.text.now) (string_bytes c.add_replayed.new.text) (string_bytes c.add_cells.new.text) c.requires.room (search rules)
-    c.in-Ok.ensures.1 (search rules))
-    c.add_cells.ensures
+    (string_bytes c.args.text.now) (string_bytes c.add_replayed.new.text) c.requires.room (search rules) c.in-Ok.ensures.1)
+    c.add_replayed.ensures
