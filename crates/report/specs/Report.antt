@@ -24,10 +24,15 @@ abbrev pub cell_shown : ℕ → ℕ → List ℕ
 cell_shown cell zero = []
 cell_shown cell count = line (cell_line cell count)
 
--- a line for each claim of the net, in their order, with its verdict by its kind
+-- what judging the claim by its kind answers, from whatever memory, and nothing else
+pub record IsVerdict (n : SystemNet) (claim : ℕ) (o : Outcome) : Type 0 where
+  pub answers : Answers n claim o
+  pub only : (p : Outcome) → Answers n claim p → p ≡ o
+
+-- a line for each claim of the net, in their order, with its verdict
 pub record AreClaimLines (n : SystemNet) (text : List ℕ) : Type 0 where
   pub outcome : ℕ → Outcome
-  pub judged : (i : ℕ) → i < length n.claims → Answers n i (outcome i)
+  pub judged : (i : ℕ) → i < length n.claims → IsVerdict n i (outcome i)
   pub lines : text ≡ in_order (λ i. line (claim_line i (outcome i))) (length n.claims)
 
 -- a line for how the replay of the trace ended, on a new bench whose trail has room for 8,192 firings, and a line for each
