@@ -1,0 +1,4 @@
+pub mod Orders
+pub mod Surveyed
+pub mod Replayed
+pub mod Verdicts
