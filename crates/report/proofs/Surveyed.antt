@@ -1,5 +1,5 @@
 -- The lines of the claims, from a survey.
-use Rattle.std.proofs.Common.{◌≡◌, ℕ, ◌<◌, ◌≤◌, List, [], ◌++◌, length, get_or, Ok, Err, sym, ap, ◌∙◌, subst, arith}
+use Rattle.std.proofs.Common.{◌≡◌, ℕ, ◌≤◌, List, [], ◌++◌, length, get_or, Ok, Err, sym, ap, ◌∙◌, subst, arith}
 use mathlib.Core.Logic.{∥∥₁_elim}
 use Rattle.std.proofs.Math.Bridge.{le_prop}
 use Rattle.lent.specs.Held.{held, memory}
@@ -14,7 +14,6 @@ use Rattle.judge.specs.Kinds.{Outcome}
 use Rattle.judge.specs.Surveys.{Added, Answers, Surveyed}
 use Rattle.judge.proofs.Sheets.{judges_long}
 use Rattle.report.specs.Lines.{claim_line}
-use Rattle.report.proofs.Verdicts.{one_answer}
 use Rattle.report.specs.Report.{Adds, AreClaimLines, in_order, line}
 
 -- the lines of claims with these outcomes
@@ -27,12 +26,11 @@ pub all_claims : (n : SystemNet) (m k : Memory) (s t : LentList Outcome) (xs : L
 all_claims n m k s t xs old new empty a seen e =
     let os = a.outcomes in
     let same : xs ≡ os = seen ∙ a.noted.holds ∙ ap (λ (ys : List Outcome). ys ++ os) empty in
-    let answered : (i : ℕ) → i < length n.claims → Answers n i (get_or xs i (Ok 0)) = λ i h. subst (λ (ys : List Outcome). Answers n i (get_or ys i (Ok 0))) (sym same) (a.each i (Ok 0) h) in
     let long : length xs ≡ length n.claims = ap length same ∙ judges_long n m k (length n.claims) os a.judged in (
       lines_of xs,
       record {
         outcome = λ i. get_or xs i (Ok 0);
-        judged = λ i h. let x = answered i h in record { answers = x; only = λ p y. one_answer n i p (get_or xs i (Ok 0)) y x };
+        judged = λ i h. subst (λ (ys : List Outcome). Answers n i (get_or ys i (Ok 0))) (sym same) (a.each i (Ok 0) h);
         lines = ap (in_order (λ i. line (claim_line i (get_or xs i (Ok 0))))) long;
       },
       e,
