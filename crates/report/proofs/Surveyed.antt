@@ -16,7 +16,6 @@ use Rattle.judge.specs.Kinds.{ByItsKind, Outcome}
 use Rattle.judge.specs.Surveys.{AllJudged, Judges, SurveyCalled}
 use Rattle.judge.proofs.Sheets.{judges_long}
 use Rattle.report.specs.Lines.{claim_line}
-use Rattle.report.proofs.Verdicts.{one_answer}
 use Rattle.report.specs.Report.{Adds, Answers, AreClaimLines, in_order, line}
 
 -- the lines of claims with these outcomes
@@ -51,12 +50,11 @@ pub all_claims : (n : SystemNet) (m k : Memory) (s t : LentList Outcome) (xs : L
 all_claims n m k s t xs old new empty a seen e =
     let os = a.outcomes in
     let same : xs ≡ os = seen ∙ a.noted.holds ∙ ap (λ (ys : List Outcome). ys ++ os) empty in
-    let answered : (i : ℕ) → i < length n.claims → Answers n i (get_or xs i (Ok 0)) = λ i h. subst (λ (ys : List Outcome). Answers n i (get_or ys i (Ok 0))) (sym same) (judges_each n m k (length n.claims) os a.judged i (Ok 0) h) in
     let long : length xs ≡ length n.claims = ap length same ∙ judges_long n m k (length n.claims) os a.judged in (
       lines_of xs,
       record {
         outcome = λ i. get_or xs i (Ok 0);
-        judged = λ i h. let x = answered i h in record { answers = x; only = λ p y. one_answer n i p (get_or xs i (Ok 0)) y x };
+        judged = λ i h. subst (λ (ys : List Outcome). Answers n i (get_or ys i (Ok 0))) (sym same) (judges_each n m k (length n.claims) os a.judged i (Ok 0) h);
         lines = ap (in_order (λ i. line (claim_line i (get_or xs i (Ok 0))))) long;
       },
       e,

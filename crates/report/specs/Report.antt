@@ -27,15 +27,10 @@ cell_shown cell count = line (cell_line cell count)
 abbrev pub Answers : SystemNet → ℕ → Outcome → Type 0
 Answers n claim o = (m : Memory) × ((k : Memory) × ByItsKind n claim m k (Ok o))
 
--- what judging the claim by its kind answers, from whatever memory, and nothing else
-pub record IsVerdict (n : SystemNet) (claim : ℕ) (o : Outcome) : Type 0 where
-  pub answers : Answers n claim o
-  pub only : (p : Outcome) → Answers n claim p → p ≡ o
-
--- a line for each claim of the net, in their order, with its verdict
+-- a line for each claim of the net, in their order, with its verdict by its kind, from whatever memory it is judged
 pub record AreClaimLines (n : SystemNet) (text : List ℕ) : Type 0 where
   pub outcome : ℕ → Outcome
-  pub judged : (i : ℕ) → i < length n.claims → IsVerdict n i (outcome i)
+  pub judged : (i : ℕ) → i < length n.claims → Answers n i (outcome i)
   pub lines : text ≡ in_order (λ i. line (claim_line i (outcome i))) (length n.claims)
 
 -- a line for how the replay of the trace ended, on a new bench whose trail has room for 8,192 firings, and a line for each
@@ -64,6 +59,11 @@ IsReportOf (Err e) trace text = text ≡ line (fault_line e)
 -- the report on a net file and a trace
 abbrev pub IsReport : List ℕ → List ℕ → List ℕ → Type 0
 IsReport file trace text = IsReportOf (told file) trace text
+
+-- the report on a net file and a trace, and no other text is
+pub record IsTheReport (file trace text : List ℕ) : Type 0 where
+  pub is : IsReport file trace text
+  pub only : (other : List ℕ) → IsReport file trace other → other ≡ text
 
 -- a text with lines added behind it of which P holds
 abbrev pub Adds : (List ℕ → Type 0) → List ℕ → List ℕ → Type 0

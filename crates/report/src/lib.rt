@@ -2,7 +2,7 @@
 #![tactic(auto)]
 
 ghost use Rattle.std.specs.Prelude.{IfOk, string_bytes};
-ghost use Rattle.report.specs.Report.{IsReport};
+ghost use Rattle.report.specs.Report.{IsReport, IsTheReport};
 
 mod build;
 mod lines;
@@ -12,8 +12,8 @@ use lines::FaultLine;
 use net::{Net, ReadError, read};
 use std::alloc::{AllocError, Global};
 
-// The text of the report. There is none only where no memory is left.
-pub fn report(heap: Global, file: &[u8], trace: &[u8]) -> Result<String, AllocError>
+// Writes the report into a new text.
+fn written(heap: Global, file: &[u8], trace: &[u8]) -> Result<String, AllocError>
     ensures { IfOk result (λ text. IsReport file.now trace.now (string_bytes text)) }
 {
     let mut net = Net::new(heap)?;
@@ -30,4 +30,11 @@ pub fn report(heap: Global, file: &[u8], trace: &[u8]) -> Result<String, AllocEr
         }
         Err(ReadError::Memory) => Err(AllocError),
     }
+}
+
+// The text of the report. There is none only where no memory is left.
+pub fn report(heap: Global, file: &[u8], trace: &[u8]) -> Result<String, AllocError>
+    ensures { IfOk result (λ text. IsTheReport file.now trace.now (string_bytes text)) }
+{
+    written(heap, file, trace)
 }

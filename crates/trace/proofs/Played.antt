@@ -9,7 +9,7 @@ use Rattle.net.specs.System.{SystemNet}
 use Rattle.bench.specs.Calls.{Begun, Lent, Leads, marking}
 use Rattle.net.specs.Runs.{Reachable}
 use Rattle.bench.proofs.Walks.{reachable}
-use Rattle.trace.specs.Carrying.{Does, Done, Refuses, TurnedDown}
+use Rattle.trace.specs.Carrying.{Does, Done, Fitting, Refuses, TurnedDown}
 use Rattle.trace.specs.Moves.{Move, longest_trace, written}
 use Rattle.trace.specs.Stops.{cell_of}
 use Rattle.trace.specs.Reading.{Close, SaysOnly, close, end, fault, first_of, move, says, too_long}
@@ -36,12 +36,12 @@ module _ (n : SystemNet) (bs rest : List ℕ) (l k : Lent) (count : ℕ) (g : Go
   few = let e = g.counted in let s = g.short in let b = ap length g.begins in omega (arith, counted g.moves rest, e, s, b)
 
   -- one command more
-  pub going_on : (m : Move) (next : List ℕ) (x : Lent) (more : ℕ) → first_of rest (length bs) ≡ move m next → Does n m k x → more ≡ count + 1 → Going n bs next l x more
-  going_on m next x more f d e = record {
+  pub going_on : (m : Move) (next : List ℕ) (x : Lent) (more : ℕ) → first_of rest (length bs) ≡ move m next → Does n m k x → Fitting x → more ≡ count + 1 → Going n bs next l x more
+  going_on m next x more f d fits e = record {
     moves = g.moves ++ m ∷ [];
     begins = one_more bs g.moves rest (length bs) m next g.begins f;
     counted = let c = g.counted in let z = length-append g.moves (m ∷ []) in omega (arith, c, z, e);
-    done = done_more n g.moves m l k x g.done d;
+    done = done_more n g.moves m l k x g.done d fits;
     short = g.short;
   }
 

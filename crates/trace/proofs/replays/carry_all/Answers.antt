@@ -1,4 +1,4 @@
-use Rattle.std.proofs.Common.{◌≡◌, ◌∙◌, None, Some, length, ap, arith, rules, refl, subst, sym}
+use Rattle.std.proofs.Common.{◌≡◌, ◌≤◌, ◌∙◌, None, Some, length, ap, arith, rules, refl, subst, sym, length-take}
 use Rattle.std.proofs.lemmas.Result.{err_from_is_err_and}
 use Rattle.term.specs.declared.fault.Fault.{Fault}
 use Rattle.bench.specs.Calls.{lent}
@@ -6,6 +6,7 @@ use Rattle.trace.specs.Carrying.{Refuses}
 use Rattle.trace.specs.Moves.{move_of}
 use Rattle.trace.specs.Stops.{cell_of}
 use Rattle.trace.specs.Reading.{close, end, fault, first_of, move}
+use Rattle.trace.proofs.Carried.{fitting}
 use Rattle.trace.proofs.Played.{few, going_on, ran_closed, ran_down, ran_long}
 use Rattle.net.specs.Of.{system}
 use Rattle.trace.proofs.replays.carry_all.Goals as goal
@@ -44,8 +45,10 @@ commands-preserved c =
     let m = move_of c.in-Some.command in
     let low = few _ _ _ _ _ _ i.0 in
     let t = c.in_ok-carry_out.ensures.called in
+    let k = lent c.carry_out.new.counts c.carry_out.new.trail in
+    let fits : length k.trail ≤ length k.memory = omega (arith, length-take c.carry_out.new.trail.len k.memory) in
     let h : first_of c.commands.rest.now (length c.args.bytes.now) ≡ move m c.in-Some.next.now = search rules in
-    (going_on _ _ _ _ _ _ i.0 m c.in-Some.next.now _ _ h t (omega arith), search rules, search rules, search rules)
+    (going_on _ _ _ _ _ _ i.0 m c.in-Some.next.now _ _ h t (fitting _ _ c.in_ok-carry_out.ensures.leads fits) (omega arith), search rules, search rules, search rules)
 
 pub returns-clause-ran : goal.returns-clause-ran
 returns-clause-ran c =
