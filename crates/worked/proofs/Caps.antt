@@ -149,7 +149,7 @@ module _ (n : SystemNet) (claim cell : ℕ) (m k : Memory) (r : Result (Option �
 
 -- what the answer for a cell is to be
 abbrev pub Capping : SystemNet → ℕ → ℕ → Answer → Type 0
-Capping n claim cell a = Shows (λ m k r. AskedByItsKind n claim cell m k r) cap_shown a
+Capping n claim cell a = Shows (AskedByItsKind n claim cell) cap_shown a
 
 -- the answer computed is the answer
 module _ (n : SystemNet) (claim cell : ℕ) (there : claim < length n.claims) (x : Kind) (of : x ≡ kind_at n claim) (fine : weights n claim x ≡ true) where
@@ -176,7 +176,7 @@ module _ (n : SystemNet) (claim cell : ℕ) (there : claim < length n.claims) (x
     by_asked : (r : Result (Option ℕ) Fault) → ((m : Memory) → Fits m → (k : Memory) × asked m k r)
         → ((s : Result (Option ℕ) Fault) → Case (domain_of x) (plain_of x) n claim cell s → cap_shown r ≡ cap_shown s) → Capping n claim cell (cap_shown r)
     by_asked r some only =
-        shows (λ m k s. AskedByItsKind n claim cell m k s) cap_shown asked
+        shows (AskedByItsKind n claim cell) cap_shown asked
         (λ m k s. ap (λ (z : Kind). AskedByKind z n claim cell m k s) (sym of) ∙ sighted n claim cell m k s x measures) r some
         (λ m k s fits a. only s (case_of (domain_of x) (plain_of x) n claim cell there (weights_are n claim x fine).1 all_plain m k fits s a))
 
@@ -204,7 +204,7 @@ module _ (n : SystemNet) (claim cell : ℕ) (there : claim < length n.claims) (x
     by_blind : (r : Result (Option ℕ) Fault) → ((m : Memory) → Fits m → (k : Memory) × NoCapCalled n claim cell m k r)
         → ((m k : Memory) (s : Result (Option ℕ) Fault) → Fits m → NoCapCalled n claim cell m k s → cap_shown r ≡ cap_shown s) → Capping n claim cell (cap_shown r)
     by_blind r some only =
-        shows (λ m k s. AskedByItsKind n claim cell m k s) cap_shown (λ m k s. NoCapCalled n claim cell m k s)
+        shows (AskedByItsKind n claim cell) cap_shown (NoCapCalled n claim cell)
         (λ m k s. ap (λ (z : Kind). AskedByKind z n claim cell m k s) (sym of) ∙ blind n claim cell m k s x blinded) r some only
 
     on_blind_cell : (b : Bool) → Tells b (HasCell n cell) → Sound (Capping n claim cell) (cond b (Some (refusal fault.NotPlain)) (Some (refusal fault.NoCell)))

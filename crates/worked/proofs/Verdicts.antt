@@ -142,7 +142,7 @@ shows C shown D same r some only = record {
 
 -- what a claim's answer is to be
 abbrev pub Judging : SystemNet → ℕ → Answer → Type 0
-Judging n claim a = Shows (λ m k r. ByItsKind n claim m k r) verdict_shown a
+Judging n claim a = Shows (ByItsKind n claim) verdict_shown a
 
 -- the answer computed is the answer
 pub judging_sound : (n : SystemNet) (claim : ℕ) → Sound (Judging n claim) (judging n claim)
@@ -154,7 +154,7 @@ judging_sound n claim = by_claim (ltb claim (length n.claims)) refl
         let v = verdict_by n claim x in
         let j = verdict_judged n claim x in
         let f = weights_are n claim x e in
-        shows (λ m k r. ByItsKind n claim m k r) verdict_shown (λ m k r. KindCalled (domain_of x) n claim m k r)
+        shows (ByItsKind n claim) verdict_shown (KindCalled (domain_of x) n claim)
         (λ m k r. ap (λ (z : Kind). ByKind z n claim m k r) (sym is) ∙ by_kind x n claim m k r)
         (Ok (outcome_of v))
         (λ m fits. by_some (laws_of x) n claim h f.0 f.1 v j m fits)

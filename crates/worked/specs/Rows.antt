@@ -91,8 +91,8 @@ pub record Replies (n : SystemNet) (fs : List Firing) (f : Firing) (a : Answer) 
 abbrev pub Answers : Told → Question → Answer → Type 0
 Answers (Err e) q a = a ≡ fault_shown e
 Answers (Ok n) read a = a ≡ net_shown n
-Answers (Ok n) (judge claim) a = Shows (λ m k r. ByItsKind n claim m k r) verdict_shown a
-Answers (Ok n) (cap claim cell) a = Shows (λ m k r. AskedByItsKind n claim cell m k r) cap_shown a
+Answers (Ok n) (judge claim) a = Shows (ByItsKind n claim) verdict_shown a
+Answers (Ok n) (cap claim cell) a = Shows (AskedByItsKind n claim cell) cap_shown a
 Answers (Ok n) (fire fs f) a = Replies n fs f a
 
 -- a row holds
