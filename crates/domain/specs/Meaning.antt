@@ -19,14 +19,10 @@ largest_weight = 1000000
 abbrev pub largest_sum : ℕ
 largest_sum = 10 ^ 16
 
--- n copies of w under an addition and its zero
-abbrev pub times : {V : Type 0} → V → (V → V → V) → ℕ → V → V
-times nil plus zero w = nil
-times nil plus (suc n) w = plus w (times nil plus n w)
-
 -- n copies of w, added up
 abbrev pub copies : {V : Type 0} → Meaning V → ℕ → V → V
-copies d n w = times d.nil d.plus n w
+copies d zero w = d.nil
+copies d (suc n) w = d.plus w (copies d n w)
 
 -- for each of the first k entries, its count of copies of the weight of its code, added up
 abbrev pub row_to : {V : Type 0} → Meaning V → List ℕ → List ℤ → ℕ → V
