@@ -9,9 +9,9 @@ use Rattle.std.proofs.lemmas.Slice.Zip.{zip_end, zip_turn}
 use Rattle.std.specs.Iterator.{Yields}
 use Rattle.std.specs.Iterator.Adapters.{zip_first, zip_second}
 use Rattle.std.specs.Slice.Iter.{iter_rest}
-use Rattle.domain.specs.Meaning.{longest_row, places}
+use Rattle.domain.specs.Meaning.{longest_row, row_length}
 
--- the pair of a turn is that of place k
+-- the pair of a turn is that of entry k
 pub record Turn (counts : List ℕ) (codes : List ℤ) (k n : ℕ) (c : ℤ) : Type 0 where
   pub short : k < longest_row
   pub inside : k < length codes
@@ -30,5 +30,5 @@ module _ (counts : List ℕ) (codes : List ℤ) (xs : List (Bor ℕ × Bor ℤ))
         code = z.3 (pos 0);
       }
 
-  pub end : r ≡ None → zips fronts fronts t r u → length xs ≡ places counts codes
+  pub end : r ≡ None → zips fronts fronts t r u → length xs ≡ row_length counts codes
   end e h = omega (arith, zip_end (take longest_row counts) codes xs s t u r first second y e h, length-take longest_row counts)

@@ -4,7 +4,7 @@ use Rattle.std.proofs.Common.{sym, ap, ◌∙◌, arith, to_z, of_z}
 use Rattle.std.proofs.Math.IntN.{+ℤ_comm, suc_ℤ-*ℤ, zero-*ℤ}
 use Rattle.std.proofs.lemmas.Int.{to_z-of_z}
 use Rattle.std.specs.Int.{w64}
-use Rattle.domain.specs.Meaning.{Laws, copies, largest_sum, times}
+use Rattle.domain.specs.Meaning.{Laws, copies, largest_sum}
 use Rattle.domain.specs.Domains.{equal, never_rises}
 use Rattle.domain.specs.Wholes.{equal_relates, never_rises_relates, order_laws, size_plus}
 
@@ -14,7 +14,7 @@ equal_laws = order_laws equal_relates
 pub never_rises_laws : Laws never_rises
 never_rises_laws = order_laws never_rises_relates
 
-pub copies_whole : (n : ℕ) (w : ℤ) → times (pos 0) ◌+ℤ◌ n w ≡ pos n *ℤ w
+pub copies_whole : (n : ℕ) (w : ℤ) → copies equal n w ≡ pos n *ℤ w
 copies_whole zero w = sym (zero-*ℤ w)
 copies_whole (suc n) w = ap (λ x. w +ℤ x) (copies_whole n w) ∙ +ℤ_comm w (pos n *ℤ w) ∙ sym (suc_ℤ-*ℤ (pos n) w)
 

@@ -19,31 +19,27 @@ largest_weight = 1000000
 abbrev pub largest_sum : ℕ
 largest_sum = 10 ^ 16
 
--- n copies of w under an addition and its zero
-abbrev pub times : {V : Type 0} → V → (V → V → V) → ℕ → V → V
-times nil plus zero w = nil
-times nil plus (suc n) w = plus w (times nil plus n w)
-
 -- n copies of w, added up
 abbrev pub copies : {V : Type 0} → Meaning V → ℕ → V → V
-copies d n w = times d.nil d.plus n w
+copies d zero w = d.nil
+copies d (suc n) w = d.plus w (copies d n w)
 
--- for each of the first k places, its count of copies of the weight of its code, added up
+-- for each of the first k entries, its count of copies of the weight of its code, added up
 abbrev pub row_to : {V : Type 0} → Meaning V → List ℕ → List ℤ → ℕ → V
 row_to d counts codes zero = d.nil
 row_to d counts codes (suc k) = d.plus (row_to d counts codes k) (copies d (slice_index counts k) (d.weight (slice_index_or codes k (pos 0))))
 
--- the most places that a row has, so that its sum stays small
+-- the most entries that a row has, so that its sum stays small
 abbrev pub longest_row : ℕ
 longest_row = 255
 
--- how many places a row has: as many as have both a count and a code, and at most the longest row
-abbrev pub places : List ℕ → List ℤ → ℕ
-places counts codes = min (min (length counts) (length codes)) longest_row
+-- how many entries a row has: those that have both a count and a code, and at most the longest row
+abbrev pub row_length : List ℕ → List ℤ → ℕ
+row_length counts codes = min (min (length counts) (length codes)) longest_row
 
 -- the value of a row
 abbrev pub row_of : {V : Type 0} → Meaning V → List ℕ → List ℤ → V
-row_of d counts codes = row_to d counts codes (places counts codes)
+row_of d counts codes = row_to d counts codes (row_length counts codes)
 
 -- the answer says whether P holds
 abbrev pub Tells : Bool → Type 0 → Type 0

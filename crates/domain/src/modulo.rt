@@ -64,7 +64,7 @@ impl WeightDomain for Modulo {
         self.reduce(u64::from(*v) + u64::from(n) * u64::from(*w))
     }
 
-    // The row is reduced once: at most 255 places with counts up to 255 of residues below 65,535 fit 32 bits, in which
+    // The row is reduced once: at most 255 entries with counts up to 255 of residues below 65,535 fit 32 bits, in which
     // it is added up faster than in 64.
     fn add_row(&self, v: &u32, counts: &[u8], codes: &[i32]) -> u32 {
         let k = self.k;

@@ -1,7 +1,7 @@
 ghost use Rattle.std.specs.Prelude.{◌≡◌, take};
 ghost use Rattle.domain.specs.Meaning.{longest_row};
 
-// A row has few places, so that its sum stays small.
+// A row has few entries, so that its sum stays small.
 const LONGEST_ROW: usize = 255;
 
 // The counts that a row can have: cut here, since a `take` on the pairs of a row makes its sum slower.
