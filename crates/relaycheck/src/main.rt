@@ -2,16 +2,28 @@
 #![tactic(auto)]
 
 use report::report;
-use std::fs;
+use std::fs::File;
+use std::io::{self, ErrorKind, Read};
 
-// What a file holds; one that cannot be read counts as empty.
-fn contents(rt: &HostRuntime, path: &str) -> Vec<u8> {
-    fs::read(rt, path).unwrap_or_else(|_| Vec::new(rt.alloc()))
+// One byte more than the longest file: enough to see that a file is too long.
+const ENOUGH: u64 = 65537;
+
+// What a file holds, as far as it matters. One that cannot be opened or read counts as empty, unless memory is wanting.
+fn contents(rt: &HostRuntime, path: &str) -> io::Result<Vec<u8>> {
+    let mut bytes = Vec::new(rt.alloc());
+    let Ok(file) = File::open(rt, path) else {
+        return Ok(bytes);
+    };
+    match file.take(ENOUGH).read_to_end(&mut bytes) {
+        Ok(_) => Ok(bytes),
+        Err(e) if e.kind() == ErrorKind::OutOfMemory => Err(e),
+        Err(_) => Ok(Vec::new(rt.alloc())),
+    }
 }
 
 fn main(rt: HostRuntime) -> anyhow::Result<()> {
-    let file = contents(&rt, "net.bin");
-    let trace = contents(&rt, "trace.bin");
+    let file = contents(&rt, "net.bin")?;
+    let trace = contents(&rt, "trace.bin")?;
     let text = report(rt.alloc(), file.as_slice(), trace.as_slice())?;
     rt.print(text.as_str())?;
     Ok(())
