@@ -1,5 +1,5 @@
 -- Paths of firings: joined, split, one more at the end, the last one off; and the run that a path is.
-use Rattle.std.proofs.Common.{◌≡◌, ℕ, ◌+◌, ◌-◌, List, [], ◌∷◌, ◌++◌, map, sym, refl, ap, ◌∙◌, arith}
+use Rattle.std.proofs.Common.{◌≡◌, ℕ, ◌+◌, ◌-◌, List, [], ◌∷◌, ◌++◌, sym, refl, ap, ◌∙◌, arith}
 use mathlib.Core.Bool.{Bool-set}
 use mathlib.Core.Logic.{∥∥₁_elim, ∥∥₁_prop}
 use native.Mathlib.Bridge.{le_prop}
@@ -8,13 +8,9 @@ use Rattle.term.specs.Worth.{Marking}
 use Rattle.net.specs.declared.firing.Firing.{Firing}
 use Rattle.net.specs.System.{SystemNet}
 use Rattle.net.specs.Nets.{given, taken}
-use Rattle.net.specs.Runs.{Reachable, Fires, Run, initial}
+use Rattle.net.specs.Runs.{Alike, Reachable, Fires, Run, initial}
 use Rattle.bench.specs.Calls.{Returns}
-use Rattle.bench.specs.Path.{Alike, Led, Path, Small}
-
--- the same firings as those of a run: transitions and modes
-abbrev pub steps : List Firing → List (ℕ × List ℕ)
-steps fs = map (λ f. (f.transition, f.mode)) fs
+use Rattle.bench.specs.Path.{Led, Path, Small}
 
 small-from : (a b : Marking) → Alike a b → Small b → Small a
 small-from a b e s c h = let z = e c h in let y = s c h in omega arith
@@ -22,16 +18,12 @@ small-from a b e s c h = let z = e c h in let y = s c h in omega arith
 module _ (n : SystemNet) where
   fires-from : (t : ℕ) (m : List ℕ) (a b x : Marking) → Alike a b → Fires n t m b x → Fires n t m a x
   fires-from t m a b x e f = record {
-    there = f.there;
-    four = f.four;
-    mode = f.mode;
-    guard = f.guard;
-    enough = λ c h. let s = e c h in let z = f.enough c h in omega arith;
+    enabled = record { is_open = f.enabled.is_open; enough = λ c h. let s = e c h in let z = f.enabled.enough c h in omega arith };
     new = λ c h. f.new c h ∙ ap (λ z. z - taken n t m c + given n t m c) (sym (e c h));
   }
 
   fires-to : (t : ℕ) (m : List ℕ) (a b x : Marking) → Alike b x → Fires n t m a b → Fires n t m a x
-  fires-to t m a b x e f = record { there = f.there; four = f.four; mode = f.mode; guard = f.guard; enough = f.enough; new = λ c h. sym (e c h) ∙ f.new c h }
+  fires-to t m a b x e f = record { enabled = f.enabled; new = λ c h. sym (e c h) ∙ f.new c h }
 
   path-from : (a b : Marking) (fs : List Firing) (x : Marking) → Alike a b → Path n b fs x → Path n a fs x
   path-from a b [] x e p = ((λ c h. e c h ∙ p.0 c h), p.1)
@@ -66,21 +58,25 @@ module _ (n : SystemNet) where
   -- each part of a firing is a proposition
   firing : (t : ℕ) (m : List ℕ) (a b : Marking) → ∥ Fires n t m a b ∥₁ → Fires n t m a b
   firing t m a b p = record {
-    there = ∥∥₁_elim p le_prop (λ f. f.there);
-    four = ∥∥₁_elim p (ℕ_set _ _) (λ f. f.four);
-    mode = record {
-      first = ∥∥₁_elim p le_prop (λ f. f.mode.first);
-      second = ∥∥₁_elim p le_prop (λ f. f.mode.second);
-      third = ∥∥₁_elim p le_prop (λ f. f.mode.third);
-      fourth = ∥∥₁_elim p le_prop (λ f. f.mode.fourth);
+    enabled = record {
+      is_open = record {
+        there = ∥∥₁_elim p le_prop (λ f. f.enabled.is_open.there);
+        mode = record {
+          four = ∥∥₁_elim p (ℕ_set _ _) (λ f. f.enabled.is_open.mode.four);
+          first = ∥∥₁_elim p le_prop (λ f. f.enabled.is_open.mode.first);
+          second = ∥∥₁_elim p le_prop (λ f. f.enabled.is_open.mode.second);
+          third = ∥∥₁_elim p le_prop (λ f. f.enabled.is_open.mode.third);
+          fourth = ∥∥₁_elim p le_prop (λ f. f.enabled.is_open.mode.fourth);
+        };
+        guard = ∥∥₁_elim p (Bool-set _ _) (λ f. f.enabled.is_open.guard);
+      };
+      enough = λ c h. ∥∥₁_elim p le_prop (λ f. f.enabled.enough c h);
     };
-    guard = ∥∥₁_elim p (Bool-set _ _) (λ f. f.guard);
-    enough = λ c h. ∥∥₁_elim p le_prop (λ f. f.enough c h);
     new = λ c h. ∥∥₁_elim p (ℕ_set _ _) (λ f. f.new c h);
   }
 
   -- the run that a path is: its markings follow from the firings
-  run : (a : Marking) (fs : List Firing) (b : Marking) → ∥ Path n a fs b ∥₁ → Run n a (steps fs) b
+  run : (a : Marking) (fs : List Firing) (b : Marking) → ∥ Path n a fs b ∥₁ → Run n a fs b
   run a [] b p = λ c h. ∥∥₁_elim p (ℕ_set _ _) (λ q. q.0 c h)
   run a (f ∷ fs) b p =
       let t = f.transition in
@@ -94,19 +90,19 @@ module _ (n : SystemNet) where
       )
 
   -- a run with one firing more
-  further : (a : Marking) (fs : List (ℕ × List ℕ)) (x : Marking) (t : ℕ) (m : List ℕ) (b : Marking) → Run n a fs x → Fires n t m x b → Run n a (fs ++ (t, m) ∷ []) b
-  further a [] x t m b p h = (b, (fires-from t m a x b p h, λ c h. refl))
-  further a (f ∷ fs) x t m b p h = (p.0, (p.1.0, further p.0 fs x t m b p.1.1 h))
+  further : (a : Marking) (fs : List Firing) (x : Marking) (f : Firing) (b : Marking) → Run n a fs x → Fires n f.transition f.mode x b → Run n a (fs ++ f ∷ []) b
+  further a [] x f b p h = (b, (fires-from f.transition f.mode a x b p h, λ c h. refl))
+  further a (g ∷ fs) x f b p h = (p.0, (p.1.0, further p.0 fs x f b p.1.1 h))
 
   pub small : (fs : List Firing) (b : Marking) → Led n fs b → Small b
   small fs b p = λ c h. ∥∥₁_elim p le_prop (λ q. small-last (initial n) fs b q c h)
 
   pub reachable : (fs : List Firing) (b : Marking) → Led n fs b → Reachable n b
-  reachable fs b p = (steps fs, run (initial n) fs b p)
+  reachable fs b p = (fs, run (initial n) fs b p)
 
   -- one firing later, too
-  pub reachable-next : (fs : List Firing) (a : Marking) → Led n fs a → (t : ℕ) (m : List ℕ) (b : Marking) → Fires n t m a b → Reachable n b
-  reachable-next fs a p t m b f = (steps fs ++ (t, m) ∷ [], further (initial n) (steps fs) a t m b (run (initial n) fs a p) f)
+  pub reachable-next : (fs : List Firing) (a : Marking) → Led n fs a → (f : Firing) (b : Marking) → Fires n f.transition f.mode a b → Reachable n b
+  reachable-next fs a p f b h = (fs ++ f ∷ [], further (initial n) fs a f b (run (initial n) fs a p) h)
 
   pub more : (fs gs : List Firing) (f : Firing) (a b : Marking) → gs ≡ fs ++ f ∷ [] → Fires n f.transition f.mode a b → Small b → Led n fs a → Led n gs b
   more fs gs f a b e h s p =

@@ -1,18 +1,18 @@
 -- What the calls of a bench make of the memory that a caller lends, and why they are refused.
-use Rattle.std.specs.Prelude.{◌≡◌, ℕ, min, ◌+◌, ◌-◌, ◌^◌, ◌<◌, ◌≤◌, true, false, List, [], ◌∷◌, ◌++◌, length, Ok, Err, Result, slice_index, slice_set}
+use Rattle.std.specs.Prelude.{◌≡◌, ℕ, min, ◌+◌, ◌-◌, ◌<◌, ◌≤◌, false, List, [], ◌∷◌, ◌++◌, length, Ok, Err, Result, slice_index, slice_set}
 use Rattle.lent.specs.Held.{held, memory as whole}
 use Rattle.lent.specs.declared.list.LentList.{LentList}
 use Rattle.term.specs.Worth.{Marking}
 use Rattle.term.specs.declared.fault.Fault.{Fault}
 use Rattle.term.specs.declared.fault.Fault.TheVariants as fault
 use Rattle.net.specs.declared.firing.Firing.{Firing}
-use Rattle.net.specs.System.{SystemNet}
+use Rattle.net.specs.System.{SystemNet, cells}
 use Rattle.net.specs.Nets.{HasCell, Mode, given, guard_holds, taken, transition}
-use Rattle.net.specs.Runs.{Fires, cells, initial}
-use Rattle.bench.specs.Counted.{changed, tokens}
+use Rattle.net.specs.Runs.{Alike, Enabled, Fires, Open, initial}
+use Rattle.bench.specs.Counted.{changed, largest_count, tokens}
 use Rattle.bench.specs.declared.change.Change.{Change}
 use Rattle.bench.specs.declared.counts.Counts.{Counts}
-use Rattle.bench.specs.Path.{Alike, Led, Small}
+use Rattle.bench.specs.Path.{Led, Small}
 
 -- the memory of a bench: the counts, the firings on the trail, oldest first, and the whole memory of the trail
 pub record Lent : Type 0 where
@@ -34,7 +34,7 @@ Leads n l = Led n l.trail (marking l)
 
 -- begun from the memory l to k: the marking is the initial one, and the trail is empty, with its memory as it was
 pub record Begun (n : SystemNet) (l k : Lent) : Type 0 where
-  pub counts : (c : ℕ) → c < cells → marking k c ≡ initial n c
+  pub counts : Alike (marking k) (initial n)
   pub trail : k.trail ≡ []
   pub memory : k.memory ≡ l.memory
 
@@ -52,29 +52,18 @@ Nowhere P = (c : ℕ) → c < cells → P c → ⊥
 abbrev pub Lacking : SystemNet → Firing → Marking → ℕ → Type 0
 Lacking n f a c = a c < taken n f.transition f.mode c
 
--- the cell would pass 65,535 once the firing's tokens are taken and put
+-- the cell would have more than it can hold once the firing's tokens are taken and put
 abbrev pub Passing : SystemNet → Firing → Marking → ℕ → Type 0
-Passing n f a c = 65535 < (a c - taken n f.transition f.mode c) + given n f.transition f.mode c
-
--- the net has the transition, the firing's numbers are a mode of it, and the guard is true there
-pub record Open (n : SystemNet) (f : Firing) : Type 0 where
-  pub there : f.transition < length n.transitions
-  pub mode : Mode (transition n f.transition).sizes f.mode
-  pub guard : guard_holds n f.transition f.mode ≡ true
+Passing n f a c = largest_count < (a c - taken n f.transition f.mode c) + given n f.transition f.mode c
 
 -- whether the net allows a firing, whatever the marking
 abbrev pub Opened : SystemNet → Firing → Result (Unit {0}) Fault → Type 0
-Opened n f (Ok u) = Open n f
+Opened n f (Ok u) = Open n f.transition f.mode
 Opened n f (Err fault.NoTransition) = length n.transitions ≤ f.transition
 Opened n f (Err fault.Mode) = (f.transition < length n.transitions) × (Mode (transition n f.transition).sizes f.mode → ⊥)
 Opened n f (Err fault.Guard) =
     (f.transition < length n.transitions) × Mode (transition n f.transition).sizes f.mode × (guard_holds n f.transition f.mode ≡ false)
 Opened n f (Err e) = ⊥
-
--- no cell lacks tokens for the firing, and none would pass 65,535
-pub record Roomy (n : SystemNet) (f : Firing) (a : Marking) : Type 0 where
-  pub enough : Nowhere (Lacking n f a)
-  pub room : Nowhere (Passing n f a)
 
 -- a firing carried out, from the memory l to k: the marking becomes the new one of the firing, and the firing is written
 -- behind the others
@@ -85,9 +74,10 @@ pub record Fired (n : SystemNet) (f : Firing) (l k : Lent) : Type 0 where
 
 -- why a firing is refused: the lowest cell counts, and each reason only where none before it holds
 abbrev pub FireRefused : SystemNet → Firing → Lent → Fault → Type 0
-FireRefused n f l (fault.Lacks c) = Open n f × Lowest (Lacking n f (marking l)) c
-FireRefused n f l (fault.Full c) = Open n f × Nowhere (Lacking n f (marking l)) × Lowest (Passing n f (marking l)) c
-FireRefused n f l fault.TrailFull = Open n f × Roomy n f (marking l) × (length l.trail ≡ length l.memory)
+FireRefused n f l (fault.Lacks c) = Open n f.transition f.mode × Lowest (Lacking n f (marking l)) c
+FireRefused n f l (fault.Full c) = Enabled n f.transition f.mode (marking l) × Lowest (Passing n f (marking l)) c
+FireRefused n f l fault.TrailFull =
+    Enabled n f.transition f.mode (marking l) × Nowhere (Passing n f (marking l)) × (length l.trail ≡ length l.memory)
 FireRefused n f l e = Opened n f (Err e)
 
 -- what a call of fire answers; a refused one changes nothing
@@ -95,13 +85,13 @@ abbrev pub FireCalled : SystemNet → Firing → Lent → Lent → Result (Unit 
 FireCalled n f l k (Ok u) = Fired n f l k
 FireCalled n f l k (Err e) = FireRefused n f l e × (k ≡ l)
 
--- whether a change can be made of counts: no cell has less than it takes, and none would pass 65,535
+-- whether a change can be made of counts: no cell has less than it takes, and none would have more than it can hold
 abbrev pub Checked : Counts → Change → Result (Unit {0}) Fault → Type 0
-Checked k d (Ok u) = ((c : ℕ) → c < cells → (slice_index d.takes c ≤ tokens k c) × (changed k d c < 2 ^ 16))
+Checked k d (Ok u) = ((c : ℕ) → c < cells → (slice_index d.takes c ≤ tokens k c) × (changed k d c ≤ largest_count))
 Checked k d (Err (fault.Lacks c)) =
     (c < cells) × (tokens k c < slice_index d.takes c) × ((i : ℕ) → i < c → slice_index d.takes i ≤ tokens k i)
 Checked k d (Err (fault.Full c)) =
-    ((i : ℕ) → i < cells → slice_index d.takes i ≤ tokens k i) × (c < cells) × (2 ^ 16 ≤ changed k d c) × ((i : ℕ) → i < c → changed k d i < 2 ^ 16)
+    ((i : ℕ) → i < cells → slice_index d.takes i ≤ tokens k i) × (c < cells) × (largest_count < changed k d c) × ((i : ℕ) → i < c → changed k d i ≤ largest_count)
 Checked k d (Err e) = ⊥
 
 -- if the firing f led to the marking a from one that fits sixteen bits, then b is that one
@@ -121,9 +111,10 @@ BackCalled n l k (Ok u) = (f : Firing) × WentBack n f l k
 BackCalled n l k (Err fault.TrailEmpty) = (l.trail ≡ []) × (k ≡ l)
 BackCalled n l k (Err e) = ⊥
 
--- what f puts is taken from the marking a, as far as it is there, and what f takes is put back, up to 65,535 in a cell
+-- what f puts is taken from the marking a, as far as it is there, and what f takes is put back, up to the most that a
+-- cell holds
 abbrev pub Unfired : SystemNet → Firing → Marking → Marking → Type 0
-Unfired n f a b = (c : ℕ) → c < cells → b c ≡ min ((a c - given n f.transition f.mode c) + taken n f.transition f.mode c) 65535
+Unfired n f a b = (c : ℕ) → c < cells → b c ≡ min ((a c - given n f.transition f.mode c) + taken n f.transition f.mode c) largest_count
 
 -- the newest firing f is taken off the trail, from the memory l to k, whose trail need not lead to the marking
 pub record Undone (n : SystemNet) (f : Firing) (l k : Lent) : Type 0 where

@@ -3,6 +3,10 @@ use Rattle.std.specs.Prelude.{ℕ, ◌+◌, ◌-◌, slice_index}
 use Rattle.bench.specs.declared.change.Change.{Change}
 use Rattle.bench.specs.declared.counts.Counts.{Counts}
 
+-- the most that a cell of a bench holds
+abbrev pub largest_count : ℕ
+largest_count = 65535
+
 abbrev pub tokens : Counts → ℕ → ℕ
 tokens k c = slice_index k.cells.now c
 

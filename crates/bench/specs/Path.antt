@@ -1,21 +1,18 @@
 -- Runs that a bench can show, where each firing stands on the trail and each marking fits sixteen bits; and what bounds
 -- the markings of all runs.
-use Rattle.std.specs.Prelude.{◌≡◌, ℕ, ◌^◌, ◌<◌, ◌≤◌, List, [], ◌∷◌, Err, Result, ◌≢◌}
+use Rattle.std.specs.Prelude.{ℕ, ◌<◌, ◌≤◌, List, [], ◌∷◌, Err, Result, ◌≢◌}
 use Rattle.term.specs.Worth.{Marking}
 use Rattle.term.specs.declared.fault.Fault.{Fault}
 use Rattle.term.specs.declared.fault.Fault.TheVariants.{Full}
 use Rattle.net.specs.declared.firing.Firing.{Firing}
 use Rattle.net.specs.Nets.{HasCell}
-use Rattle.net.specs.System.{SystemNet}
-use Rattle.net.specs.Runs.{Bounded, Fires, cells, initial}
+use Rattle.net.specs.System.{SystemNet, cells}
+use Rattle.net.specs.Runs.{Alike, Bounded, Fires, initial}
+use Rattle.bench.specs.Counted.{largest_count}
 
--- no cell holds more than 65,535
+-- no cell has more than a bench can hold
 abbrev pub Small : Marking → Type 0
-Small a = (c : ℕ) → c < cells → a c < 2 ^ 16
-
--- two markings have the same in each cell
-abbrev pub Alike : Marking → Marking → Type 0
-Alike a b = (c : ℕ) → c < cells → a c ≡ b c
+Small a = (c : ℕ) → c < cells → a c ≤ largest_count
 
 -- the firings lead, one after the other, from a to b, over markings that fit sixteen bits
 abbrev pub Path : SystemNet → Marking → List Firing → Marking → Type 0
@@ -28,7 +25,7 @@ Led n fs b = ∥ Path n (initial n) fs b ∥₁
 
 -- every cell of the net has a bound that a bench can hold
 abbrev pub Holdable : SystemNet → Type 0
-Holdable n = (c : ℕ) → HasCell n c → (k : ℕ) × (k ≤ 65535) × Bounded n c k
+Holdable n = (c : ℕ) → HasCell n c → (k : ℕ) × (k ≤ largest_count) × Bounded n c k
 
 -- where every cell of the net has such a bound, no cell is found full
 abbrev pub NeverFull : SystemNet → Result (Unit {0}) Fault → Type 0

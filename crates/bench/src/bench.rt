@@ -2,10 +2,10 @@ ghost use Rattle.bench.specs.Calls.{Leads, lent};
 ghost use Rattle.net.specs.Of.{system};
 
 use crate::counts::Counts;
-use lent::list::LentList;
+use lent::LentList;
 use net::{Firing, Net};
 
-pub mod methods;
+mod methods;
 
 // A marking of a net in lent counts, with a trail of the firings that led to it from the initial marking.
 #[derive(Drop)]

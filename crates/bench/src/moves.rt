@@ -9,7 +9,7 @@ ghost use Rattle.net.specs.Of.{system};
 
 use crate::change::Change;
 use crate::counts::Counts;
-use lent::list::LentList;
+use lent::LentList;
 use net::{Firing, Net};
 use term::Fault;
 

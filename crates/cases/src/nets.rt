@@ -2,7 +2,7 @@
 ghost use Rattle.std.specs.Prelude.{◌≡◌};
 ghost use Rattle.cases.specs.Digits.{hex_digit};
 
-use net::{Net, ReadError, read};
+use net::{Firing, Net, ReadError, read};
 use std::alloc::{AllocError, Global};
 use term::Fault;
 
@@ -17,6 +17,12 @@ pub const SMALL: &str = "0102 0101 0401 0401 0402 0500000001 0500010001 05020000
 pub const MANY: &str = "0101 030101FF 0401 060000000000";
 
 pub const TWICE: &str = "0900 32 3300210100 3300210100";
+
+// Memory of a trail, before anything fires.
+pub const BLANK: Firing = Firing {
+    transition: 0,
+    mode: [0; 4],
+};
 
 // The value of a hexadecimal digit.
 fn digit(c: u8) -> Option<u8>

@@ -2,10 +2,10 @@
 use crate::calls::{Call, make};
 use Call::{Back, Fire, Restart};
 use bench::{Bench, Counts, Firing, measure};
-use cases::nets::{MANY, SMALL, TWICE, joined, net_of, repeated};
+use cases::nets::{BLANK, MANY, SMALL, TWICE, joined, net_of, repeated};
 use domain::Equal;
 use judge::Judge;
-use lent::list::LentList;
+use lent::LentList;
 use net::{CELLS, Net};
 use std::process::Abort;
 use std::test::Fail;
@@ -13,12 +13,6 @@ use term::Fault;
 
 // A call, its answer, and how many tokens one cell then has.
 type Step = (Call, Result<(), Fault>, usize, u16);
-
-// Memory of a trail, before anything fires.
-const BLANK: Firing = Firing {
-    transition: 0,
-    mode: [0; 4],
-};
 
 // Checks calls in a row on a new bench, on a trail with room for so many firings.
 fn check_steps(rt: &impl Abort, at: &str, net: &Net, room: usize, steps: &[Step]) {

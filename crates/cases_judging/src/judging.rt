@@ -2,12 +2,11 @@
 use crate::memory::{Lent, marked};
 use cases::nets::{SMALL, changed, joined, net_of, number};
 use judge::{Judge, Outcome};
-use lent::list::LentList;
-use net::{CELLS, Firing, Net, ReadError};
+use lent::LentList;
+use net::{CELLS, Firing, Net};
 use std::alloc::Global;
 use std::process::Abort;
 use std::test::Fail;
-use term::Fault;
 
 // A claim that breaks at a transition, in a mode.
 fn broken(transition: usize, mode: [u8; 4]) -> Outcome {

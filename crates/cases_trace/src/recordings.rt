@@ -1,10 +1,13 @@
 // Recordings: what they write, where they are full, and what their traces do.
+use crate::ends::ended;
 use crate::traces::{Left, QUIET, SENDING, check_replay};
-use cases::nets::{SMALL, joined, net_of, number};
+use cases::nets::{BLANK, SMALL, joined, net_of, number};
+use lent::LentList;
+use net::{CELLS, Net};
 use std::process::Abort;
 use std::test::Fail;
 use term::Fault;
-use trace::{Command, EndedRecording, OpenRecording};
+use trace::{Command, EndedRecording, OpenRecording, replay_recording};
 
 const FIRE: Command = Command::Fire {
     transition: 0,
@@ -159,6 +162,22 @@ fn a_recording_ends_at_65536_bytes(rt: HostRuntime) -> Result<(), Fail> {
     check_replay(&rt, "the longest", rt.alloc(), &net, bytes, want)
 }
 
+// Checks what the replay of a recording leaves; memory of another length is refused before it.
+fn check_played(rt: &impl Abort, net: &Net, recording: &EndedRecording, memory: &[u8], want: Left) {
+    let mut cells = [7; CELLS];
+    let mut firings = [BLANK; 8];
+    let mut trail = LentList::new(&mut firings);
+    let refused = replay_recording(net, &mut cells, &mut trail, recording, &[]);
+    assert_eq!(rt; refused.err(), Some(Fault::Memory));
+    assert_eq!(rt; (cells[0], trail.len()), (7, 0));
+    let played = replay_recording(net, &mut cells, &mut trail, recording, memory);
+    let tokens = [cells[0], cells[1], cells[64], cells[128]];
+    assert_eq!(rt;
+        played.map(|done| (ended(done), trail.len(), tokens)),
+        Ok(want)
+    );
+}
+
 // Commands to record, and what their replay on the small net leaves.
 const ROUND_TRIPS: &[(&[(Command, u8)], Left)] = &[
     (&[], ((0, 0, 0), 0, QUIET)),
@@ -186,9 +205,10 @@ fn recordings_replayed(rt: HostRuntime) -> Result<(), Fail> {
     let net = net_of(rt.alloc(), file.as_slice())?;
     for &(commands, want) in ROUND_TRIPS {
         let mut memory = [0xAA; 32];
-        let ended = recorded(&rt, &mut memory, commands)?;
-        let bytes = traced(&ended, &memory)?;
+        let recording = recorded(&rt, &mut memory, commands)?;
+        let bytes = traced(&recording, &memory)?;
         check_replay(&rt, "a recording", rt.alloc(), &net, bytes, want)?;
+        check_played(&rt, &net, &recording, &memory, want);
     }
     Ok(())
 }

@@ -1,20 +1,14 @@
 // Replays of traces.
 use crate::ends::{Ended, ended};
 use bench::Firing;
-use cases::nets::{SMALL, joined, net_of, repeated};
-use lent::list::LentList;
+use cases::nets::{BLANK, SMALL, joined, net_of, repeated};
+use lent::LentList;
 use net::{CELLS, Net};
 use std::alloc::Global;
 use std::process::Abort;
 use std::test::Fail;
 use term::Fault;
 use trace::replay;
-
-// Memory of a trail, before anything fires.
-const BLANK: Firing = Firing {
-    transition: 0,
-    mode: [0; 4],
-};
 
 // What a replay leaves: how it ends, how many firings are then on the trail, and how many tokens the cells 0, 1, 64
 // and 128 then have.

@@ -1,4 +1,4 @@
--- What the laws of a domain give of copies and of sums. Assumes nothing.
+-- What the laws of a domain give of copies and of sums.
 use Rattle.std.proofs.Common.{◌≡◌, ℕ, zero, suc, ◌+◌, ◌*◌, ◌<◌, ◌≤◌, ◌⊎◌, ℤ, sym, refl, ap, ◌∙◌, subst, ⊎_elim, suc-add, mul-le-mul_left, zero-add, arith}
 use Rattle.domain.specs.Meaning.{Added, CopiesCommute, CopiesSplit, Grown, Laws, Meaning, SumsRelate, copies, largest_sum, largest_weight}
 use Rattle.domain.specs.Measure.{PlainLaws}

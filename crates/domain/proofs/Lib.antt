@@ -2,4 +2,7 @@ pub mod Copies
 pub mod Measures
 pub mod Numbers
 pub mod Pairs
+pub mod Residues
 pub mod Rows
+pub mod Truths
+pub mod Wholes

@@ -1,11 +1,12 @@
--- The largest number of copies, in whole numbers and in truth values. Assumes nothing.
+-- The largest number of copies, in whole numbers and in truth values.
 use Rattle.std.proofs.Common.{◌≡◌, ℕ, zero, suc, ◌-◌, ◌*◌, ◌/◌, ◌<◌, ◌≤◌, Bool, true, false, eqb, ℤ, pos, negsuc, ◌+ℤ◌, ◌≤ℤ◌, refl, ap, subst, div-lt_iff_lt-mul, div-mul-le_self, arith}
 use Rattle.std.proofs.lemmas.Int.{ints}
 use Rattle.domain.specs.Meaning.{copies}
 use Rattle.domain.specs.Domains.{siphon, whole}
 use Rattle.domain.specs.Measure.{Largest, Reaches, whole_largest, truth_largest}
-use Rattle.domain.specs.Truths.{copies_false, copies_truth}
-use Rattle.domain.specs.Wholes.{WholeOrder, copies_whole}
+use Rattle.domain.proofs.Truths.{copies_false, copies_truth}
+use Rattle.domain.specs.Wholes.{WholeOrder}
+use Rattle.domain.proofs.Wholes.{copies_whole}
 
 module _ {rel : ℤ → ℤ → Type 0} (o : WholeOrder rel) where
   reaches : (a b n : ℕ) → n * b ≤ a → Reaches (whole rel) (λ v. pos 0 ≤ℤ v) (pos a) (pos b) n

@@ -1,5 +1,5 @@
--- The meanings of the domains: whole numbers, residues and truth values, and a domain turned. Assumes nothing.
-use Rattle.std.specs.Prelude.{◌≡◌, ℕ, ◌+◌, ◌%◌, ◌<◌, Bool, true, false, cond, ◌&&◌, ◌||◌, ℤ, pos, negsuc, ◌+ℤ◌, neg_ℤ, ◌≤ℤ◌, ◌==◌, int_le, nat_lt, unsigned_abs}
+-- The meanings of the domains: whole numbers, residues and truth values, and a domain turned.
+use Rattle.std.specs.Prelude.{◌≡◌, ℕ, ◌+◌, ◌%◌, ◌<◌, ◌≤◌, Bool, true, false, cond, ◌&&◌, ◌||◌, ℤ, pos, negsuc, ◌+ℤ◌, neg_ℤ, ◌≤ℤ◌, ◌==◌, int_le, nat_lt, unsigned_abs}
 use Rattle.domain.specs.Meaning.{Meaning, largest_weight}
 
 -- the codes of whole numbers: both signs, up to the largest weight
@@ -29,6 +29,14 @@ equal = whole (λ v w. v ≡ w)
 -- the value never rises: the second is at most the first
 abbrev pub never_rises : Meaning ℤ
 never_rises = whole (λ v w. w ≤ℤ v)
+
+-- the largest modulus
+abbrev pub largest_modulus : ℕ
+largest_modulus = 65535
+
+-- a number that residues may be taken by: by 0 there are none, and by 1 all are 0
+abbrev pub IsModulus : ℕ → Type 0
+IsModulus k = (2 ≤ k) × (k ≤ largest_modulus)
 
 -- the codes of residues: 0 to k - 1
 abbrev pub residue_code : ℕ → ℤ → Bool

@@ -1,11 +1,11 @@
--- The six kinds of claims: their numbers, their weights, and which of them measure. Assumes nothing.
+-- The six kinds of claims: their numbers, their weights, and which of them measure.
 use Rattle.std.specs.Prelude.{◌≡◌, ℕ, Bool, true, false, cond, ℤ, Some, None, Option, ◌==◌, nat_le, refl}
 use Rattle.std.proofs.Common.{leb-true}
-use Rattle.domain.specs.Domains.{equal, modulo, never_rises, siphon, turned}
+use Rattle.domain.specs.Domains.{equal, largest_modulus, modulo, never_rises, siphon, turned}
 use Rattle.domain.specs.declared.kind.Kind.{Kind}
 use Rattle.domain.specs.declared.kind.Kind.TheVariants.{Equal, NeverRises, NeverFalls, Modulo, Trap, Siphon}
 
--- the number that a kind has in a file, and the modulus beside it
+-- the number that a kind has in a file
 abbrev pub kind_number : Kind → ℕ
 kind_number Equal = 1
 kind_number NeverRises = 2
@@ -14,10 +14,12 @@ kind_number (Modulo m) = 4
 kind_number Trap = 5
 kind_number Siphon = 6
 
+-- the modulus beside it, 0 where the kind has none
 abbrev pub kind_modulus : Kind → ℕ
 kind_modulus (Modulo m) = m.k
 kind_modulus x = 0
 
+-- a kind stands in a file as this number and modulus
 abbrev pub Numbered : Kind → ℕ → ℕ → Type 0
 Numbered x n k = (n ≡ kind_number x) × (k ≡ kind_modulus x)
 
@@ -27,13 +29,13 @@ KindAt n k (Some x) = Numbered x n k
 KindAt n k None = (x : Kind) → Numbered x n k → ⊥
 
 -- the kind modulo k, where k can be a modulus
-abbrev pub modulo_by : (k : ℕ) (low high : Bool) → nat_le 2 k ≡ low → nat_le k 65535 ≡ high → Kind
-modulo_by k true true p q = Modulo (record { k = k; ok = (leb-true 2 k p, leb-true k 65535 q) })
+abbrev pub modulo_by : (k : ℕ) (low high : Bool) → nat_le 2 k ≡ low → nat_le k largest_modulus ≡ high → Kind
+modulo_by k true true p q = Modulo (record { k = k; ok = (leb-true 2 k p, leb-true k largest_modulus q) })
 modulo_by k true false p q = Equal
 modulo_by k false high p q = Equal
 
 abbrev pub modulo_kind : ℕ → Kind
-modulo_kind k = modulo_by k (nat_le 2 k) (nat_le k 65535) refl refl
+modulo_kind k = modulo_by k (nat_le 2 k) (nat_le k largest_modulus) refl refl
 
 -- the kind of a number and a modulus that a claim may have
 abbrev pub kind_of : ℕ → ℕ → Kind

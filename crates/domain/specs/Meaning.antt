@@ -1,7 +1,7 @@
--- What a weight domain is: its meaning, its laws, and what each of its functions answers. Assumes nothing.
+-- What a weight domain is: its meaning, its laws, and what each of its functions answers.
 use Rattle.std.specs.Prelude.{◌≡◌, ℕ, zero, suc, ◌+◌, ◌*◌, ◌^◌, ◌<◌, ◌≤◌, min, Bool, true, false, List, length, ℤ, pos, slice_index, slice_index_or}
 
--- the meaning of a domain: its values, their zero, sum, relation and size, and which codes are weights, of which values
+-- the meaning of a domain: which v are its values (holds), their zero, sum, relation and size, and which codes are weights, of which values
 pub record Meaning (V : Type 0) : Type 1 where
   pub holds : V → Type 0
   pub nil : V
@@ -19,27 +19,27 @@ largest_weight = 1000000
 abbrev pub largest_sum : ℕ
 largest_sum = 10 ^ 16
 
--- n copies of w under an addition and its zero
-abbrev pub times : {V : Type 0} → V → (V → V → V) → ℕ → V → V
-times nil plus zero w = nil
-times nil plus (suc n) w = plus w (times nil plus n w)
-
 -- n copies of w, added up
 abbrev pub copies : {V : Type 0} → Meaning V → ℕ → V → V
-copies d n w = times d.nil d.plus n w
+copies d zero w = d.nil
+copies d (suc n) w = d.plus w (copies d n w)
 
--- for each of the first k places, its count of copies of the weight of its code, added up
+-- for each of the first k entries, its count of copies of the weight of its code, added up
 abbrev pub row_to : {V : Type 0} → Meaning V → List ℕ → List ℤ → ℕ → V
 row_to d counts codes zero = d.nil
 row_to d counts codes (suc k) = d.plus (row_to d counts codes k) (copies d (slice_index counts k) (d.weight (slice_index_or codes k (pos 0))))
 
--- how many places a row has: as many as have both a count and a code, and at most 255
-abbrev pub places : List ℕ → List ℤ → ℕ
-places counts codes = min (min (length counts) (length codes)) 255
+-- the most entries that a row has, so that its sum stays small
+abbrev pub longest_row : ℕ
+longest_row = 255
+
+-- how many entries a row has: those that have both a count and a code, and at most the longest row
+abbrev pub row_length : List ℕ → List ℤ → ℕ
+row_length counts codes = min (min (length counts) (length codes)) longest_row
 
 -- the value of a row
 abbrev pub row_of : {V : Type 0} → Meaning V → List ℕ → List ℤ → V
-row_of d counts codes = row_to d counts codes (places counts codes)
+row_of d counts codes = row_to d counts codes (row_length counts codes)
 
 -- the answer says whether P holds
 abbrev pub Tells : Bool → Type 0 → Type 0
@@ -51,7 +51,7 @@ pub record Added {V : Type 0} (d : Meaning V) (v : V) (n : ℕ) (w r : V) : Type
   pub exact : d.size v + n * d.size w ≤ largest_sum → r ≡ d.plus v (copies d n w)
   pub beyond : largest_sum < d.size v + n * d.size w → r ≡ d.nil
 
--- the laws: an ordered commutative monoid, with a code for zero, and sizes that bound sums and weights
+-- the laws: a preordered commutative monoid, with a code for zero, and sizes that bound sums and weights
 pub record Laws {V : Type 0} (d : Meaning V) : Type 0 where
   pub nil_holds : d.holds d.nil
   pub plus_holds : (u v : V) → d.holds u → d.holds v → d.holds (d.plus u v)

@@ -1,4 +1,4 @@
--- What a measuring domain is. Assumes nothing.
+-- What a measuring domain is.
 use Rattle.std.specs.Prelude.{ℕ, ◌/◌, ◌<◌, Bool, cond, not, ◌||◌, Option, Some, None, ℤ, pos, negsuc, ◌==◌}
 use Rattle.domain.specs.Meaning.{Meaning, copies}
 

@@ -1,4 +1,4 @@
--- The laws of plain values: numbers not below zero, and both truth values. Assumes nothing.
+-- The laws of plain values: numbers not below zero, and both truth values.
 use Rattle.std.specs.Prelude.{ℤ, pos, ◌+ℤ◌, ◌≤ℤ◌}
 use Rattle.std.proofs.Common.{arith}
 use Rattle.std.proofs.lemmas.Int.{ints}

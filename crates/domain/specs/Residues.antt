@@ -1,17 +1,9 @@
--- The laws of the residues modulo k. Assumes nothing.
-use Rattle.std.specs.Prelude.{◌≡◌, ℕ, zero, suc, ◌+◌, ◌*◌, ◌%◌, ◌<◌, ◌≤◌, true, false, ℤ, pos, negsuc, refl}
+-- The laws of the residues modulo k.
+use Rattle.std.specs.Prelude.{◌≡◌, ℕ, ◌+◌, ◌%◌, ◌<◌, ◌≤◌, true, false, ℤ, pos, negsuc, refl}
 use Rattle.std.proofs.Common.{sym, ap, ◌∙◌, mod-lt, add_assoc, add_comm, zero-add, mod-eq_of_lt, arith}
 use Rattle.std.proofs.Math.Nat.{add-mod-mod, mod-add-mod}
-use Rattle.domain.specs.Meaning.{Laws, copies}
+use Rattle.domain.specs.Meaning.{Laws}
 use Rattle.domain.specs.Domains.{modulo, residue_code, residue_weight}
-
-pub copies_residue : (k n w : ℕ) → 2 ≤ k → copies (modulo k) n w ≡ (n * w) % k
-copies_residue k zero w h = grind arith
-copies_residue k (suc n) w h =
-    ap (λ x. (w + x) % k) (copies_residue k n w h) ∙ add-mod-mod w (n * w) k ∙ ap (λ x. x % k) (omega arith)
-
-pub added : (k v n w : ℕ) → 2 ≤ k → (v + n * w) % k ≡ (modulo k).plus v (copies (modulo k) n w)
-added k v n w h = sym (ap (λ x. (v + x) % k) (copies_residue k n w h) ∙ add-mod-mod v (n * w) k)
 
 pub weight_holds : (k : ℕ) (c : ℤ) → 2 ≤ k → residue_weight k c < k
 weight_holds k (pos n) h = grind arith

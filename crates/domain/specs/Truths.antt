@@ -1,17 +1,8 @@
--- The laws of the truth values under "or". Assumes nothing.
-use Rattle.std.specs.Prelude.{◌≡◌, ℕ, zero, suc, ◌<◌, Bool, true, false, ◌||◌, ℤ, pos, negsuc, refl}
+-- The laws of the truth values under "or".
+use Rattle.std.specs.Prelude.{◌≡◌, Bool, true, false, ◌||◌, ℤ, pos, negsuc, refl}
 use Rattle.std.proofs.Common.{arith}
-use Rattle.domain.specs.Meaning.{Laws, copies}
+use Rattle.domain.specs.Meaning.{Laws}
 use Rattle.domain.specs.Domains.{siphon, truth_code, truth_weight}
-
-pub copies_false : (n : ℕ) → copies siphon n false ≡ false
-copies_false zero = refl
-copies_false (suc n) = copies_false n
-
-pub copies_truth : (n : ℕ) (w : Bool) → 0 < n → copies siphon n w ≡ w
-copies_truth zero w h = grind arith
-copies_truth (suc n) true h = refl
-copies_truth (suc n) false h = copies_false n
 
 pub assoc : (u v w : Bool) → ((u || v) || w) ≡ (u || (v || w))
 assoc true v w = refl

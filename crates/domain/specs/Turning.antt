@@ -1,4 +1,4 @@
--- A domain whose relation is read backwards keeps the laws. Assumes nothing.
+-- A domain whose relation is read backwards keeps the laws.
 use Rattle.domain.specs.Meaning.{Laws, Meaning}
 use Rattle.domain.specs.Domains.{turned}
 

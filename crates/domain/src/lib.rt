@@ -49,7 +49,7 @@ pub trait WeightDomain {
     fn add_copies(&self, v: &Self::Value, n: u32, w: &Self::Value) -> Self::Value
         ensures { Added (meaning self.now) v.now n w.now result };
 
-    // v with a row added, in which each place has its count of copies of the weight of its code; zero where
+    // v with a row added, in which each entry has its count of copies of the weight of its code; zero where
     // their sizes pass the largest sum.
     fn add_row(&self, v: &Self::Value, counts: &[u8], codes: &[i32]) -> Self::Value
         ensures { Added (meaning self.now) v.now 1 (row_of (meaning self.now) counts.now codes.now) result }

@@ -1,5 +1,5 @@
 ghost use Rattle.std.specs.Prelude.{◌≡◌, ◌%◌, ◌≤◌, MatchOption};
-ghost use Rattle.domain.specs.Domains.{modulo, residue_weight};
+ghost use Rattle.domain.specs.Domains.{IsModulus, modulo, residue_weight};
 ghost use Rattle.domain.specs.Residues.{residue_laws};
 
 use crate::WeightDomain;
@@ -9,12 +9,12 @@ use crate::row::counted;
 #[derive(Clone, Copy, PartialEq, Eq, Debug)]
 pub struct Modulo {
     pub(crate) k: u32,
-    ghost ok: { (2 ≤ k) × (k ≤ 65535) },
+    ghost ok: { IsModulus k },
 }
 
 impl Modulo {
     pub fn new(k: u32) -> Option<Modulo>
-        ensures { MatchOption result ((2 ≤ k) × (k ≤ 65535) → ⊥) (λ m. m.k ≡ k) }
+        ensures { MatchOption result (IsModulus k → ⊥) (λ m. m.k ≡ k) }
     {
         if (2..=65535).contains(&k) {
             Some(Modulo { k })
@@ -59,12 +59,12 @@ impl WeightDomain for Modulo {
     }
 
     // The sum fits 64 bits before it is reduced.
-    #[tactic(auto, using(crate::specs::Residues::added))]
+    #[tactic(auto, using(crate::proofs::Residues::added))]
     fn add_copies(&self, v: &u32, n: u32, w: &u32) -> u32 {
         self.reduce(u64::from(*v) + u64::from(n) * u64::from(*w))
     }
 
-    // The row is reduced once: at most 255 places with counts up to 255 of residues below 65,535 fit 32 bits, in which
+    // The row is reduced once: at most 255 entries with counts up to 255 of residues below 65,535 fit 32 bits, in which
     // it is added up faster than in 64.
     fn add_row(&self, v: &u32, counts: &[u8], codes: &[i32]) -> u32 {
         let k = self.k;

@@ -11,7 +11,7 @@ use crate::row::counted;
 pub struct Siphon;
 
 // Under "or" one copy does what many do.
-#[tactic(auto, using(crate::specs::Truths::copies_truth))]
+#[tactic(auto, using(crate::proofs::Truths::copies_truth))]
 fn copied(n: u32, w: bool) -> bool
     ensures { result ≡ copies siphon n w }
 {

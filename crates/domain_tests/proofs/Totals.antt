@@ -1,4 +1,4 @@
--- One weight more, from the laws alone. Assumes nothing.
+-- One weight more, from the laws alone.
 use Rattle.std.proofs.Common.{◌≡◌, ℕ, ◌+◌, ◌*◌, ◌<◌, ◌≤◌, Bool, true, false, cond, leb, leb-true, leb-false, List, get_or, length, ℤ, pos, ap, ◌∙◌, refl, add-one, arith}
 use Rattle.domain.specs.Meaning.{Added, Grown, Laws, Meaning, copies, largest_sum, largest_weight}
 use Rattle.domain.proofs.Copies.{copies_one}

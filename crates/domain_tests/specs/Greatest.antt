@@ -1,4 +1,4 @@
--- The meaning of a caller's own domain. Assumes nothing.
+-- The meaning of a caller's own domain.
 use Rattle.std.specs.Prelude.{ℕ, ◌≤◌, max, Bool, true, false, ℤ, pos, negsuc}
 use Rattle.domain.specs.Meaning.{Meaning}
 use Rattle.domain_tests.specs.declared.Height.{Height}

@@ -1,4 +1,4 @@
--- The sum of one weight for each code. Assumes nothing.
+-- The sum of one weight for each code.
 use Rattle.std.specs.Prelude.{ℕ, zero, suc, ◌+◌, cond, List, length, ℤ, pos, nat_le, slice_index_or}
 use Rattle.domain.specs.Meaning.{Meaning, largest_sum}
 

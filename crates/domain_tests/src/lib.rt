@@ -40,7 +40,7 @@ impl WeightDomain for Greatest {
         Height { metres: 0 }
     }
 
-    #[tactic(auto, using(crate::specs::Heights::added))]
+    #[tactic(auto, using(crate::proofs::Heights::added))]
     fn add_copies(&self, v: &Height, n: u32, w: &Height) -> Height {
         if n > 0 && v.metres < w.metres {
             Height { metres: w.metres }

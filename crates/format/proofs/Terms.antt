@@ -1,11 +1,11 @@
 -- Commands that end in a term or a bag.
 use Rattle.std.proofs.Common.{◌≡◌, ℕ, ◌<◌, cond, ltb, List, length, get_or, drop, sym, ap, ◌∙◌, lt-ltb}
-use Rattle.term.specs.Check.{Checked, check_bag, check_term}
+use Rattle.term.specs.Check.{Checked, check_bag, check_term, spot}
 use Rattle.term.specs.declared.fault.Fault.TheVariants as fail
 use Rattle.term.specs.Meaning.{Sig}
 use Rattle.format.specs.declared.command.Direction.{Direction}
 use Rattle.format.specs.Commands.{Read, fault, guard, arc}
-use Rattle.format.specs.Format.{arc_at, arc_bag, guard_at, guard_term, in_command, spot, with_term}
+use Rattle.format.specs.Format.{arc_at, arc_bag, guard_at, guard_term, in_command, with_term}
 
 -- a test that holds
 passes : (i n : ℕ) (r q : Read) → i < n → r ≡ cond (ltb i n) r q

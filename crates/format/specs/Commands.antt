@@ -1,7 +1,7 @@
--- The commands of a net file as plain values, and their numbers.
+-- The commands of a net file as plain values.
 use Rattle.std.specs.Prelude.{ℕ, cond, ◌==◌, List, ℤ, Ok, Err, Result}
 use Rattle.std.specs.Borrow.{Bor}
-use Rattle.domain.specs.Kinds.{kind_modulus, kind_number}
+use Rattle.domain.specs.declared.kind.Kind.{Kind}
 use Rattle.term.specs.declared.fault.FileFault.{FileFault}
 use Rattle.term.specs.declared.signature.Arguments.{Arguments}
 use Rattle.term.specs.declared.signature.Arguments.TheVariants as arguments
@@ -12,14 +12,14 @@ use Rattle.format.specs.declared.command.Direction.{Direction}
 -- a command, its table, term or bag as a list of bytes
 pub data Said : Type 0 where
   sort : ℕ → Said
-  operation : ℕ → ℕ → ℕ → ℕ → List ℕ → Said
+  operation : Arguments → ℕ → List ℕ → Said
   bag_operation : ℕ → ℕ → List ℕ → Said
   place : ℕ → Said
   tokens : ℕ → ℕ → ℕ → Said
   transition : List ℕ → Said
   guard : List ℕ → Said
   arc : Direction → ℕ → List ℕ → Said
-  claim : ℕ → ℕ → Said
+  claim : Kind → Said
   place_weight : ℕ → ℤ → Said
   element_weight : ℕ → ℕ → ℤ → Said
   end : Said
@@ -29,22 +29,6 @@ pub data Read : Type 0 where
   said : Said → List ℕ → Read
   fault : FileFault → Read
 
--- how many arguments there are, and their sorts, 0 where there is none
-abbrev pub arity : Arguments → ℕ
-arity arguments.None = 0
-arity (arguments.One a) = 1
-arity (arguments.Two a b) = 2
-
-abbrev pub first : Arguments → ℕ
-first arguments.None = 0
-first (arguments.One a) = a
-first (arguments.Two a b) = a
-
-abbrev pub second : Arguments → ℕ
-second arguments.None = 0
-second (arguments.One a) = 0
-second (arguments.Two a b) = b
-
 -- so many arguments, of the sorts a and b
 abbrev pub arguments_of : ℕ → ℕ → ℕ → Arguments
 arguments_of n a b = cond (n == 0) arguments.None (cond (n == 1) (arguments.One a) (arguments.Two a b))
@@ -52,14 +36,14 @@ arguments_of n a b = cond (n == 0) arguments.None (cond (n == 1) (arguments.One 
 -- what a command says
 abbrev pub said_of : Command → Said
 said_of (command.Sort n) = sort n
-said_of (command.Operation a r t) = operation (arity a) (first a) (second a) r t.now
+said_of (command.Operation a r t) = operation a r t.now
 said_of (command.BagOperation a r t) = bag_operation a r t.now
 said_of (command.Place s) = place s
 said_of (command.Tokens p e n) = tokens p e n
 said_of (command.Transition s) = transition s.now
 said_of (command.Guard t) = guard t.now
 said_of (command.Arc d p b) = arc d p b.now
-said_of (command.Claim k) = claim (kind_number k) (kind_modulus k)
+said_of (command.Claim k) = claim k
 said_of (command.PlaceWeight p c) = place_weight p c
 said_of (command.ElementWeight p e c) = element_weight p e c
 said_of command.End = end

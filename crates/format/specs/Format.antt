@@ -5,14 +5,14 @@ use Rattle.std.specs.Int.{w32}
 use Rattle.std.specs.List.{position_from}
 use Rattle.std.proofs.Common.{to_z}
 use Rattle.std.specs.Borrow.{Bor}
-use Rattle.domain.specs.Kinds.{kind_weighs}
+use Rattle.domain.specs.Kinds.{kind_of, kind_weighs}
 use Rattle.domain.specs.declared.kind.Kind.{Kind}
-use Rattle.term.specs.Check.{Checked, done, bad, check_bag, check_term}
+use Rattle.term.specs.Check.{Checked, done, bad, check_bag, check_term, spot}
 use Rattle.term.specs.declared.fault.Fault.{Fault}
 use Rattle.term.specs.declared.fault.Fault.TheVariants as fail
 use Rattle.term.specs.declared.fault.FileFault.{FileFault}
 use Rattle.term.specs.declared.fault.Stage.TheVariants as stage
-use Rattle.term.specs.Meaning.{Sig, of}
+use Rattle.term.specs.Meaning.{Sig, of, size_of}
 use Rattle.term.specs.declared.signature.Arguments.{Arguments}
 use Rattle.term.specs.declared.signature.Arguments.TheVariants as arguments
 use Rattle.format.specs.Commands.{Said, Read, arguments_of, said, fault, sort, operation, bag_operation, place, tokens, transition, guard, arc, claim, place_weight, element_weight, end}
@@ -26,10 +26,6 @@ use Rattle.format.specs.declared.operands.Context.{Context}
 abbrev pub in_command : Fault → ℕ → FileFault
 in_command f p = record { fault = f; place = p; stage = stage.Command }
 
--- where the byte k of what is left stands in the file
-abbrev pub spot : List ℕ → ℕ → ℕ → ℕ
-spot bs ends k = ends - length bs + k
-
 -- the byte i of what is left, or the fault that the file ends
 abbrev pub byte : List ℕ → ℕ → ℕ → (ℕ → Read) → Read
 byte bs ends i k = cond (nat_lt i (length bs)) (k (slice_index bs i)) (fault (in_command fail.Ends ends))
@@ -37,10 +33,6 @@ byte bs ends i k = cond (nat_lt i (length bs)) (k (slice_index bs i)) (fault (in
 -- a check at the byte that stands at p: the fault f unless ok
 abbrev pub check : Bool → Fault → ℕ → Read → Read
 check ok f p r = cond ok r (fault (in_command f p))
-
--- the size of a sort, 0 where it is not declared
-abbrev pub size_of : List ℕ → ℕ → ℕ
-size_of sizes s = slice_index sizes s
 
 -- the size of a place's sort, 0 where there is no such place
 abbrev pub place_size : List ℕ → List ℕ → ℕ → ℕ
@@ -101,7 +93,7 @@ operation_at sizes bs ends =
     (byte bs ends 2 (λ a. check (fitting sizes (nat_lt 0 n) a) fail.Range (spot bs ends 2)
     (byte bs ends 3 (λ b. check (fitting sizes (nat_lt 1 n) b) fail.Range (spot bs ends 3)
     (byte bs ends 4 (λ r. check (nat_lt r (length sizes)) fail.Range (spot bs ends 4)
-    (with_table (table_at (drop 5 bs) ends (combinations sizes (arguments_of n a b)) (size_of sizes r)) (operation n a b r)))))))))
+    (with_table (table_at (drop 5 bs) ends (combinations sizes (arguments_of n a b)) (size_of sizes r)) (operation (arguments_of n a b) r)))))))))
 
 -- a bag operation: argument sort, result sort, for each argument one count for each element of the result sort
 abbrev pub bag_operation_at : List ℕ → List ℕ → ℕ → Read
@@ -136,6 +128,10 @@ variable_sizes sizes n s =
 abbrev pub mode_count : List ℕ → ℕ
 mode_count v = (slice_index v 0 * slice_index v 1) * (slice_index v 2 * slice_index v 3)
 
+-- the most modes that a transition may have
+abbrev pub most_modes : ℕ
+most_modes = 65536
+
 -- a transition: number of variables, four sorts, of which the first are those of the variables; the modes are counted at the last sort byte
 abbrev pub transition_at : List ℕ → List ℕ → ℕ → Read
 transition_at sizes bs ends =
@@ -144,7 +140,7 @@ transition_at sizes bs ends =
     (byte bs ends 3 (λ b. check (fitting sizes (nat_lt 1 n) b) fail.Range (spot bs ends 3)
     (byte bs ends 4 (λ c. check (fitting sizes (nat_lt 2 n) c) fail.Range (spot bs ends 4)
     (byte bs ends 5 (λ d. check (fitting sizes (nat_lt 3 n) d) fail.Range (spot bs ends 5)
-    (check (nat_le (mode_count (variable_sizes sizes n (a ∷ b ∷ c ∷ d ∷ []))) 65536) fail.Modes (spot bs ends 5)
+    (check (nat_le (mode_count (variable_sizes sizes n (a ∷ b ∷ c ∷ d ∷ []))) most_modes) fail.Modes (spot bs ends 5)
     (said (transition (take n (drop 2 bs))) (drop 6 bs))))))))))))
 
 -- the bytes of bs that stand before r, which is its end
@@ -156,13 +152,17 @@ abbrev pub with_term : Checked → List ℕ → (List ℕ → Said) → Read
 with_term (done r) bs k = said (k (front_of bs r)) r
 with_term (bad e) bs k = fault e
 
--- a guard's term: of sort 0, at most 16 deep
-unfoldable pub guard_term : Sig → List ℕ → ℕ → List ℕ → Checked
-guard_term s vars ends bs = check_term s vars ends 16 0 bs
+-- the deepest that a term or a bag may be
+abbrev pub depth : ℕ
+depth = 16
 
--- an arc's bag: over the sort of the place, at most 16 deep
+-- a guard's term: of sort 0
+unfoldable pub guard_term : Sig → List ℕ → ℕ → List ℕ → Checked
+guard_term s vars ends bs = check_term s vars ends depth 0 bs
+
+-- an arc's bag: over the sort of the place
 unfoldable pub arc_bag : Sig → List ℕ → ℕ → ℕ → List ℕ → Checked
-arc_bag s vars ends want bs = check_bag s vars ends 16 want bs
+arc_bag s vars ends want bs = check_bag s vars ends depth want bs
 
 -- a guard: a term
 abbrev pub guard_at : Sig → List ℕ → List ℕ → ℕ → Read
@@ -183,7 +183,7 @@ abbrev pub claim_at : List ℕ → ℕ → Read
 claim_at bs ends =
     byte bs ends 1 (λ k. check (nat_le 1 k && nat_le k 6) fail.Range (spot bs ends 1)
     (byte bs ends 2 (λ hi. byte bs ends 3 (λ lo. check (modulus_fits k (hi * 256 + lo)) fail.Range (spot bs ends 3)
-    (said (claim k (hi * 256 + lo)) (drop 4 bs))))))
+    (said (claim (kind_of k (hi * 256 + lo))) (drop 4 bs))))))
 
 -- four bytes, the high one first, as a signed number (two's complement)
 abbrev pub signed : ℕ → ℕ → ℕ → ℕ → ℤ

@@ -1,9 +1,9 @@
 // The format of net files: commands, their order, and their operands.
 #![tactic(auto)]
 
-pub mod command;
-pub mod operands;
-pub mod section;
+mod command;
+mod operands;
+mod section;
 
 pub use command::{Code, Command, Direction, NoCode};
 pub use operands::{Context, DEPTH, modes, place_size, refused, variable_sizes};

@@ -1,8 +1,9 @@
 // The operands of each command, taken apart by slice patterns. Each is checked at its own byte.
 ghost use Rattle.std.specs.Prelude.{◌≡◌, ◌<◌, ◌≤◌, length, nat_le, IfSome, IfOk};
-ghost use Rattle.term.specs.Meaning.{of};
+ghost use Rattle.term.specs.Meaning.{of, size_of};
 ghost use Rattle.format.specs.Commands.{arguments_of, fault, seen};
-ghost use Rattle.format.specs.Format.{arc_at, bag_operation_at, claim_at, combinations, counts_at, element_weight_at, end_at, first_bad, fitting, front_of, guard_at, in_command, mode_count, operation_at, parse_at, parts_of, place_at, place_size, place_weight_at, setting_of, size_of, sort_at, spot, table_at, tokens_at, transition_at, variable_sizes};
+ghost use Rattle.format.specs.Format.{arc_at, bag_operation_at, claim_at, combinations, counts_at, element_weight_at, end_at, first_bad, fitting, front_of, guard_at, in_command, mode_count, operation_at, parse_at, parts_of, place_at, place_size, place_weight_at, setting_of, sort_at, table_at, tokens_at, transition_at, variable_sizes};
+ghost use Rattle.term.specs.Check.{spot};
 ghost use Rattle.format.specs.Reads.{Reads};
 
 use crate::command::{Code, Command, Direction};
@@ -13,7 +14,7 @@ use term::{Arguments, Checker, Fault, FileFault, Stage};
 pub const DEPTH: u8 = 16;
 
 // The most modes that a transition may have.
-pub const MODES: u32 = 65536;
+const MODES: u32 = 65536;
 
 // A command and what follows it.
 type Parsed<'f> = Result<(Command<'f>, &'f [u8]), FileFault>;
@@ -21,6 +22,7 @@ type Parsed<'f> = Result<(Command<'f>, &'f [u8]), FileFault>;
 // Some bytes and what follows them.
 type Halves<'f> = Result<(&'f [u8], &'f [u8]), FileFault>;
 
+// A fault at a byte of a command.
 pub fn refused(fault: Fault, place: usize) -> FileFault
     ensures { result ≡ in_command fault place }
 {
@@ -32,7 +34,7 @@ pub fn refused(fault: Fault, place: usize) -> FileFault
 }
 
 // The size of a sort, 0 where it is not declared.
-pub fn size(sizes: &[u8], sort: u8) -> u8
+fn size(sizes: &[u8], sort: u8) -> u8
     ensures { result ≡ size_of sizes.now sort }
 {
     sizes.get(sort as usize).copied().unwrap_or(0)
@@ -154,7 +156,7 @@ impl<'a> Context<'a> {
 
     // size, 1 to 64
     fn sort<'f>(&self, bytes: &'f [u8]) -> Parsed<'f>
-        ensures { Reads self.now bytes.now result (sort_at bytes.now self.now.checker.ends) }
+        ensures { Reads bytes.now result (sort_at bytes.now self.now.checker.ends) }
     {
         match bytes {
             [_, size, ..] if !(1..=64).contains(size) => self.out_of_range(bytes, 1),
@@ -185,7 +187,7 @@ impl<'a> Context<'a> {
 
     // number of arguments, two argument sorts, result sort, one result for each combination of arguments
     fn operation<'f>(&self, bytes: &'f [u8]) -> Parsed<'f>
-        ensures { Reads self.now bytes.now result (operation_at self.now.checker.signature.sizes.now bytes.now self.now.checker.ends) }
+        ensures { Reads bytes.now result (operation_at self.now.checker.signature.sizes.now bytes.now self.now.checker.ends) }
     {
         let sizes = self.checker.signature.sizes;
         match bytes {
@@ -216,7 +218,7 @@ impl<'a> Context<'a> {
 
     // argument sort, result sort, for each argument one count for each element of the result sort
     fn bag_operation<'f>(&self, bytes: &'f [u8]) -> Parsed<'f>
-        ensures { Reads self.now bytes.now result (bag_operation_at self.now.checker.signature.sizes.now bytes.now self.now.checker.ends) }
+        ensures { Reads bytes.now result (bag_operation_at self.now.checker.signature.sizes.now bytes.now self.now.checker.ends) }
     {
         let sizes = self.checker.signature.sizes;
         match bytes {
@@ -238,7 +240,7 @@ impl<'a> Context<'a> {
 
     // sort
     fn place<'f>(&self, bytes: &'f [u8]) -> Parsed<'f>
-        ensures { Reads self.now bytes.now result (place_at self.now.checker.signature.sizes.now bytes.now self.now.checker.ends) }
+        ensures { Reads bytes.now result (place_at self.now.checker.signature.sizes.now bytes.now self.now.checker.ends) }
     {
         match bytes {
             [_, sort, ..] if *sort as usize >= self.checker.signature.sizes.len() =>
@@ -250,7 +252,7 @@ impl<'a> Context<'a> {
 
     // place, element, two-byte count
     fn tokens<'f>(&self, bytes: &'f [u8]) -> Parsed<'f>
-        ensures { Reads self.now bytes.now result (tokens_at self.now.checker.signature.sizes.now self.now.places.now bytes.now self.now.checker.ends) }
+        ensures { Reads bytes.now result (tokens_at self.now.checker.signature.sizes.now self.now.places.now bytes.now self.now.checker.ends) }
     {
         match bytes {
             [_, place, ..] if self.lacks_place(*place) => self.out_of_range(bytes, 1),
@@ -271,7 +273,7 @@ impl<'a> Context<'a> {
 
     // number of variables, four sorts; the modes are counted at the last sort byte
     fn transition<'f>(&self, bytes: &'f [u8]) -> Parsed<'f>
-        ensures { Reads self.now bytes.now result (transition_at self.now.checker.signature.sizes.now bytes.now self.now.checker.ends) }
+        ensures { Reads bytes.now result (transition_at self.now.checker.signature.sizes.now bytes.now self.now.checker.ends) }
     {
         let sizes = self.checker.signature.sizes;
         match bytes {
@@ -295,7 +297,7 @@ impl<'a> Context<'a> {
 
     // a term of sort 0
     fn guard<'f>(&self, bytes: &'f [u8]) -> Parsed<'f>
-        ensures { Reads self.now bytes.now result (guard_at (of self.now.checker.signature) self.now.checker.variables.now bytes.now self.now.checker.ends) }
+        ensures { Reads bytes.now result (guard_at (of self.now.checker.signature) self.now.checker.variables.now bytes.now self.now.checker.ends) }
     {
         match bytes {
             [_, term @ ..] => {
@@ -311,7 +313,7 @@ impl<'a> Context<'a> {
 
     // place, a bag over its sort
     fn arc<'f>(&self, direction: Direction, bytes: &'f [u8]) -> Parsed<'f>
-        ensures { Reads self.now bytes.now result (arc_at (of self.now.checker.signature) self.now.places.now direction self.now.checker.variables.now bytes.now self.now.checker.ends) }
+        ensures { Reads bytes.now result (arc_at (of self.now.checker.signature) self.now.places.now direction self.now.checker.variables.now bytes.now self.now.checker.ends) }
     {
         match bytes {
             [_, place, ..] if self.lacks_place(*place) => self.out_of_range(bytes, 1),
@@ -331,7 +333,7 @@ impl<'a> Context<'a> {
 
     // kind, 1 to 6, two-byte modulus, which is 0 but for kind 4
     fn claim<'f>(&self, bytes: &'f [u8]) -> Parsed<'f>
-        ensures { Reads self.now bytes.now result (claim_at bytes.now self.now.checker.ends) }
+        ensures { Reads bytes.now result (claim_at bytes.now self.now.checker.ends) }
     {
         match bytes {
             [_, kind, ..] if *kind < 1 || *kind > 6 => self.out_of_range(bytes, 1),
@@ -348,7 +350,7 @@ impl<'a> Context<'a> {
 
     // place, four-byte signed code
     fn place_weight<'f>(&self, bytes: &'f [u8]) -> Parsed<'f>
-        ensures { Reads self.now bytes.now result (place_weight_at self.now.places.now self.now.kind bytes.now self.now.checker.ends) }
+        ensures { Reads bytes.now result (place_weight_at self.now.places.now self.now.kind bytes.now self.now.checker.ends) }
     {
         match bytes {
             [_, place, ..] if self.lacks_place(*place) => self.out_of_range(bytes, 1),
@@ -369,7 +371,7 @@ impl<'a> Context<'a> {
 
     // place, element, four-byte signed code
     fn element_weight<'f>(&self, bytes: &'f [u8]) -> Parsed<'f>
-        ensures { Reads self.now bytes.now result (element_weight_at self.now.checker.signature.sizes.now self.now.places.now self.now.kind bytes.now self.now.checker.ends) }
+        ensures { Reads bytes.now result (element_weight_at self.now.checker.signature.sizes.now self.now.places.now self.now.kind bytes.now self.now.checker.ends) }
     {
         match bytes {
             [_, place, ..] if self.lacks_place(*place) => self.out_of_range(bytes, 1),
@@ -394,7 +396,7 @@ impl<'a> Context<'a> {
 
     // nothing, and nothing may follow
     fn end<'f>(&self, bytes: &'f [u8]) -> Parsed<'f>
-        ensures { Reads self.now bytes.now result (end_at bytes.now self.now.checker.ends) }
+        ensures { Reads bytes.now result (end_at bytes.now self.now.checker.ends) }
     {
         match bytes {
             [_, _, ..] => Err(FileFault {
@@ -415,7 +417,7 @@ impl<'a> Context<'a> {
 
     // The command of the given code at the front of `bytes`, with its operands, and what follows it.
     pub fn parse<'f>(&self, code: Code, bytes: &'f [u8]) -> Parsed<'f>
-        ensures { Reads self.now bytes.now result (parse_at (setting_of self.now) code bytes.now) }
+        ensures { Reads bytes.now result (parse_at (setting_of self.now) code bytes.now) }
     {
         match code {
             Code::Sort => self.sort(bytes),

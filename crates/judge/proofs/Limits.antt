@@ -8,7 +8,7 @@ use Rattle.term.proofs.Sums.{value_add, value_holds, value_one, value_same}
 use Rattle.net.specs.System.{SystemNet}
 use Rattle.net.specs.Runs.{Bounded, initial}
 use Rattle.judge.specs.Calls.{Memory}
-use Rattle.judge.specs.Caps.{AllPlain, Asked, CapIs, Limits}
+use Rattle.judge.specs.Caps.{AllPlain, CapCalled, CapIs, Limits}
 use Rattle.judge.specs.Theorem.{Keeps}
 
 -- the tokens of one cell, and those of all others
@@ -76,7 +76,7 @@ module _ {V : Type 0} {d : Meaning V} (l : Laws d) (codes : List ℤ) where
 
 -- a number that is answered is a bound
 pub limits : {V : Type 0} {d : Meaning V} {plain : V → Type 0} → Laws d → PlainLaws d plain → (n : SystemNet) (claim cell : ℕ) (m k : Memory) (most : Option ℕ)
-    → length k.codes ≡ 1024 → Asked d plain n claim cell m k (Ok most) → Limits n cell (Ok most)
+    → length k.codes ≡ 1024 → CapCalled d plain n claim cell m k (Ok most) → Limits n cell (Ok most)
 limits l p n claim cell m k None long a = tt
 limits l p n claim cell m k (Some b) long a =
     let c = a.0.within in

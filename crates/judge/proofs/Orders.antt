@@ -1,5 +1,5 @@
 -- Every mode has a number, and every number below the number of modes is one of a mode.
-use Rattle.std.proofs.Common.{◌≡◌, ℕ, zero, suc, ◌+◌, ◌*◌, ◌/◌, ◌%◌, ◌<◌, List, [], ◌∷◌, length, get_or, ap, ◌∙◌, subst, mod-lt, mod-eq_of_lt, mul_assoc, arith, ne_eqb}
+use Rattle.std.proofs.Common.{◌≡◌, ℕ, zero, suc, ◌+◌, ◌*◌, ◌/◌, ◌%◌, ◌<◌, List, [], ◌∷◌, get_or, ap, ◌∙◌, subst, mod-lt, mod-eq_of_lt, mul_assoc, arith, ne_eqb, refl}
 use lib.Arith.{digits_div, digits_lt, digits_mod}
 use Rattle.format.specs.Format.{mode_count}
 use Rattle.net.specs.Nets.{Mode, digit, mode_of}
@@ -25,12 +25,13 @@ module _ (p q r s a b c d : ℕ) (ha : a < p) (hb : b < q) (hc : c < r) (hd : d 
   below : i < p * q * r * s
   below = digits_lt (digits_lt (digits_lt ha hb) hc) hd
 
-pub numbered : (ns m : List ℕ) → length m ≡ 4 → Mode ns m → (i : ℕ) × (i < mode_count ns) × (m ≡ mode_of ns i)
-numbered ns [] l h = absurd (omega arith)
-numbered ns (a ∷ []) l h = absurd (omega arith)
-numbered ns (a ∷ b ∷ []) l h = absurd (omega arith)
-numbered ns (a ∷ b ∷ c ∷ []) l h = absurd (omega arith)
-numbered ns (a ∷ b ∷ c ∷ d ∷ []) l h =
+-- the number of a mode
+pub numbered : (ns m : List ℕ) → Mode ns m → (i : ℕ) × (i < mode_count ns) × (m ≡ mode_of ns i)
+numbered ns [] h = let l = h.four in absurd (omega arith)
+numbered ns (a ∷ []) h = let l = h.four in absurd (omega arith)
+numbered ns (a ∷ b ∷ []) h = let l = h.four in absurd (omega arith)
+numbered ns (a ∷ b ∷ c ∷ []) h = let l = h.four in absurd (omega arith)
+numbered ns (a ∷ b ∷ c ∷ d ∷ []) h =
     let p = get_or ns 0 0 in
     let q = get_or ns 1 0 in
     let r = get_or ns 2 0 in
@@ -39,7 +40,7 @@ numbered ns (a ∷ b ∷ c ∷ d ∷ []) l h =
       subst (λ (x : ℕ). i p q r s a b c d h.first h.second h.third h.fourth < x) (mul_assoc (p * q) r s) (below p q r s a b c d h.first h.second h.third h.fourth),
       counted p q r s a b c d h.first h.second h.third h.fourth,
     )
-numbered ns (a ∷ b ∷ c ∷ d ∷ e ∷ es) l h = absurd (omega arith)
+numbered ns (a ∷ b ∷ c ∷ d ∷ e ∷ es) h = let l = h.four in absurd (omega arith)
 
 some : (p q i : ℕ) → i < p * q → (0 < p) × (0 < q)
 some zero q i h = absurd (omega arith)
@@ -56,6 +57,7 @@ is_mode ns i h =
     let one = some p q 0 front.0 in
     let two = some r s 0 front.1 in
     record {
+      four = refl;
       first = small (i / s / r / q) p one.0;
       second = small (i / s / r) q one.1;
       third = small (i / s) r two.0;

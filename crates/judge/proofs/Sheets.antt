@@ -1,13 +1,12 @@
 -- One claim more on a sheet.
-use Rattle.std.proofs.Common.{◌≡◌, ℕ, zero, suc, ◌+◌, ◌<◌, ◌⊎◌, List, [], ◌∷◌, ◌++◌, length, get_or, drop, set, Ok, sym, refl, ap, ◌∙◌, subst, ⊎_elim, append_assoc, add-one, arith, length-append, length-set}
-use Rattle.std.proofs.Math.Seq.{get_or-append_seam}
-use Rattle.std.proofs.lemmas.List.{drop-drop, drop-set-lt, get_or_append_left}
+use Rattle.std.proofs.Common.{◌≡◌, ℕ, zero, suc, ◌+◌, ◌<◌, List, [], ◌∷◌, ◌++◌, length, drop, set, Ok, sym, refl, ap, ◌∙◌, append_assoc, add-one, arith, length-append, length-set}
+use Rattle.std.proofs.lemmas.List.{drop-drop, drop-set-lt}
 use Rattle.lent.specs.Held.{held, memory}
 use Rattle.lent.specs.declared.list.LentList.{LentList}
 use Rattle.net.specs.System.{SystemNet}
 use Rattle.judge.specs.Calls.{Memory}
-use Rattle.judge.specs.Kinds.{Outcome}
-use Rattle.judge.specs.Surveys.{Answers, Added, ByItsKind, Judges, Noted, Ready}
+use Rattle.judge.specs.Kinds.{ByItsKind, Outcome}
+use Rattle.judge.specs.Surveys.{AllJudged, Judges, Noted, Ready}
 
 longer : (xs ys : List Outcome) (o : Outcome) → ys ≡ xs ++ o ∷ [] → length ys ≡ length xs + 1
 longer xs ys o e = ap length e ∙ length-append xs (o ∷ [])
@@ -59,43 +58,20 @@ judges_long n m k (suc c) os j =
     let l = longer j.1 os j.2 j.3.2 in
     omega arith
 
--- each outcome is what its claim is answered from some memory
-pub judges_each : (n : SystemNet) (m k : Memory) (c : ℕ) (os : List Outcome) → Judges n m c k os → (i : ℕ) (d : Outcome) → i < c
-    → Answers n i (get_or os i d)
-unfolding Judges
-judges_each n m k zero os j i d h = absurd (omega arith)
-judges_each n m k (suc c) os j i d h =
-    ⊎_elim
-    (λ (l : i < c).
-    let same : get_or os i d ≡ get_or j.1 i d = ap (λ (xs : List Outcome). get_or xs i d) j.3.2 ∙ get_or_append_left j.1 (j.2 ∷ []) d i (omega (arith, long)) in
-    subst (Answers n i) (sym same) (judges_each n m j.0 c j.1 j.3.0 i d l))
-    (λ (e : i ≡ c).
-    let at : i ≡ length j.1 = omega (arith, long) in
-    let same : get_or os i d ≡ j.2 = ap (λ (xs : List Outcome). get_or xs i d) j.3.2 ∙ ap (λ (x : ℕ). get_or (j.1 ++ j.2 ∷ []) x d) at ∙ get_or-append_seam j.1 j.2 [] d in
-    subst (Answers n i) (sym same) (j.0, (k, subst (λ (x : ℕ). ByItsKind n x j.0 k (Ok j.2)) (sym e) j.3.1)))
-    (before_or_last i c h)
-  where
-    long : length j.1 ≡ c
-    long = judges_long n m j.0 c j.1 j.3.0
-
-    before_or_last : (i c : ℕ) → i < suc c → (i < c) ⊎ (i ≡ c)
-    before_or_last i c h = grind arith
-
 module _ (n : SystemNet) (m : Memory) (s : LentList Outcome) where
-  pub added_none : Added n m m s s 0
-  added_none = record { outcomes = []; judged = judges_none n m; each = judges_each n m m 0 [] (judges_none n m); noted = noted_none s }
+  pub added_none : AllJudged n m m s s 0
+  added_none = record { outcomes = []; judged = judges_none n m; noted = noted_none s }
 
-  pub added_more : (x k : Memory) (y t : LentList Outcome) (c : ℕ) (o : Outcome) → Added n m x s y c → ByItsKind n c x k (Ok o)
-      → held t ≡ held y ++ o ∷ [] → memory t ≡ set (memory y) (length (held y)) o → Added n m k s t (c + 1)
+  pub added_more : (x k : Memory) (y t : LentList Outcome) (c : ℕ) (o : Outcome) → AllJudged n m x s y c → ByItsKind n c x k (Ok o)
+      → held t ≡ held y ++ o ∷ [] → memory t ≡ set (memory y) (length (held y)) o → AllJudged n m k s t (c + 1)
   added_more x k y t c o a b h e = record {
     outcomes = a.outcomes ++ o ∷ [];
     judged = judges_more n m x k c a.outcomes o a.judged b;
-    each = judges_each n m k (c + 1) (a.outcomes ++ o ∷ []) (judges_more n m x k c a.outcomes o a.judged b);
     noted = noted_more s y t a.outcomes o a.noted (noted_one y t o h e);
   }
 
   -- where there was room for all claims, there is for one more
-  pub still_room : (k : Memory) (t : LentList Outcome) (c : ℕ) → Ready n m s → Added n m k s t c → c < length n.claims → length (held t) < length (memory t)
+  pub still_room : (k : Memory) (t : LentList Outcome) (c : ℕ) → Ready n m s → AllJudged n m k s t c → c < length n.claims → length (held t) < length (memory t)
   still_room k t c ready a h =
       let held_now = ap length a.noted.holds ∙ length-append (held s) a.outcomes in
       let whole = a.noted.long in

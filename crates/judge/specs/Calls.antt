@@ -5,25 +5,20 @@ use Rattle.domain.specs.Meaning.{Meaning}
 use Rattle.term.specs.declared.fault.Fault.{Fault}
 use Rattle.term.specs.declared.fault.Fault.TheVariants as fault
 use Rattle.net.specs.Of.{system}
-use Rattle.net.specs.System.{SystemNet}
+use Rattle.net.specs.System.{SystemNet, cells}
 use Rattle.net.specs.Nets.{codes_of, given, taken}
 use Rattle.net.specs.Runs.{Counted}
 use Rattle.judge.specs.Judged.{Judged, Verdict}
-use Rattle.judge.specs.Theorem.{Exactly, Keeps, Right}
+use Rattle.judge.specs.Theorem.{Exactly, Keeps}
 use Rattle.judge.specs.declared.judging.Judge.{Judge}
 
--- memory for 1,024 codes and twice 1,024 counts
-pub record Measured (codes : List ℤ) (before after : List ℕ) : Type 0 where
-  pub codes_long : length codes ≡ 1024
-  pub before_long : length before ≡ 1024
-  pub after_long : length after ≡ 1024
-
-abbrev pub none : List ℕ
-none = replicate 1024 0
+-- the counts of a marking without tokens: 0 in every cell
+abbrev pub no_tokens : List ℕ
+no_tokens = replicate cells 0
 
 -- the counts after judging: t− and t+ of the mode named if broken, else all 0
 abbrev pub Left : {V : Type 0} → SystemNet → Verdict V → List ℕ → List ℕ → Type 0
-Left n (Ok c) b a = (b ≡ none) × (a ≡ none)
+Left n (Ok c) b a = (b ≡ no_tokens) × (a ≡ no_tokens)
 Left n (Err x) b a = Counted b (taken n x.firing.transition x.firing.mode) × Counted a (given n x.firing.transition x.firing.mode)
 
 -- every code is a weight
@@ -33,7 +28,6 @@ AllWeigh d codes = (c : ℕ) → c < length codes → d.weighs (slice_index_or c
 -- what judging the codes in memory answers: the verdict defined, right for every marking and every run
 pub record VerdictOn {V : Type 0} (d : Meaning V) (codes : List ℤ) (n : SystemNet) (r : Verdict V) (b a : List ℕ) : Type 0 where
   pub judged : Judged d codes n r
-  pub right : Right d codes n r
   pub exactly : Exactly d codes n r
   pub keeps : Keeps d codes n r
   pub left : Left n r b a
@@ -52,8 +46,11 @@ net_of w = system w.net.now
 abbrev pub lent : Judge → Memory
 lent w = record { codes = w.codes.now; before = w.before.now; after = w.after.now }
 
-abbrev pub Fits : Memory → Type 0
-Fits m = Measured m.codes m.before m.after
+-- memory for a code of each cell, and for two counts of each
+pub record Fits (m : Memory) : Type 0 where
+  pub codes_long : length m.codes ≡ cells
+  pub before_long : length m.before ≡ cells
+  pub after_long : length m.after ≡ cells
 
 -- the same loan as before, of the same length: its owner gets back what was written there
 pub record SameLoan {A : Type 0} (v w : MutBor (List A)) : Type 0 where
@@ -68,23 +65,23 @@ pub record SameLoans (v w : Judge) : Type 0 where
   pub after : SameLoan v.after w.after
 
 -- whether a call can begin: memory that fits, and a claim that the net has
-abbrev pub Begun : SystemNet → ℕ → Memory → Result (Unit {0}) Fault → Type 0
-Begun n claim m (Ok u) = Fits m × (claim < length n.claims)
-Begun n claim m (Err fault.Memory) = Fits m → ⊥
-Begun n claim m (Err fault.NoClaim) = Fits m × (length n.claims ≤ claim)
-Begun n claim m (Err e) = ⊥
+abbrev pub CanBegin : SystemNet → ℕ → Memory → Result (Unit {0}) Fault → Type 0
+CanBegin n claim m (Ok u) = Fits m × (claim < length n.claims)
+CanBegin n claim m (Err fault.Memory) = Fits m → ⊥
+CanBegin n claim m (Err fault.NoClaim) = Fits m × (length n.claims ≤ claim)
+CanBegin n claim m (Err e) = ⊥
 
 -- what a call of judge answers, from the memory m to the memory k
-abbrev pub Called : {V : Type 0} → Meaning V → SystemNet → ℕ → Memory → Memory → Result (Verdict V) Fault → Type 0
-Called d n claim m k (Ok r) =
+abbrev pub JudgeCalled : {V : Type 0} → Meaning V → SystemNet → ℕ → Memory → Memory → Result (Verdict V) Fault → Type 0
+JudgeCalled d n claim m k (Ok r) =
     Fits m × (claim < length n.claims) × (k.codes ≡ codes_of n claim) × AllWeigh d k.codes × VerdictOn d k.codes n r k.before k.after
-Called d n claim m k (Err fault.Memory) = (Fits m → ⊥) × (k ≡ m)
-Called d n claim m k (Err fault.NoClaim) = Fits m × (length n.claims ≤ claim) × (k ≡ m)
-Called d n claim m k (Err fault.NoWeight) =
+JudgeCalled d n claim m k (Err fault.Memory) = CanBegin n claim m (Err fault.Memory) × (k ≡ m)
+JudgeCalled d n claim m k (Err fault.NoClaim) = CanBegin n claim m (Err fault.NoClaim) × (k ≡ m)
+JudgeCalled d n claim m k (Err fault.NoWeight) =
     Fits m × (claim < length n.claims) × (k.codes ≡ codes_of n claim) × (AllWeigh d k.codes → ⊥) × (k.before ≡ m.before) × (k.after ≡ m.after)
-Called d n claim m k (Err e) = ⊥
+JudgeCalled d n claim m k (Err e) = ⊥
 
 -- the codes of a claim are in memory, each a weight
 abbrev pub Loaded : {V : Type 0} → Meaning V → SystemNet → ℕ → Memory → Memory → Result (Unit {0}) Fault → Type 0
 Loaded d n claim m k (Ok u) = (k.codes ≡ codes_of n claim) × AllWeigh d k.codes × (k.before ≡ m.before) × (k.after ≡ m.after)
-Loaded d n claim m k (Err e) = Called d n claim m k (Err e)
+Loaded d n claim m k (Err e) = JudgeCalled d n claim m k (Err e)

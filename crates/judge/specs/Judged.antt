@@ -1,32 +1,24 @@
 -- What judging answers: the verdict, the first mode that breaks a claim, and the number of modes.
 use Rattle.std.specs.Prelude.{◌≡◌, ℕ, zero, suc, ◌+◌, ◌<◌, true, cond, List, length, ℤ, Ok, Err, Result}
 use Rattle.domain.specs.Meaning.{Meaning}
-use Rattle.format.specs.Format.{mode_count}
 use Rattle.term.specs.Worth.{value_of}
 use Rattle.net.specs.System.{SystemNet}
-use Rattle.net.specs.Nets.{given, guard_holds, mode_of, taken, transition}
+use Rattle.net.specs.Nets.{given, guard_holds, mode, modes_of, taken}
 use Rattle.judge.specs.declared.verdict.Breach.{Breach}
 
 -- the number of modes with a true guard, or how the claim breaks
 abbrev pub Verdict : Type 0 → Type 0
 Verdict V = Result ℕ (Breach V)
 
--- how many modes a transition has, and the mode of a number, the first variable slowest
-abbrev pub modes_of : SystemNet → ℕ → ℕ
-modes_of n t = mode_count (transition n t).sizes
-
-abbrev pub mode : SystemNet → ℕ → ℕ → List ℕ
-mode n t i = mode_of (transition n t).sizes i
-
 -- how many of the first i modes have a true guard
-unfoldable pub firing : SystemNet → ℕ → ℕ → ℕ
-firing n t zero = 0
-firing n t (suc i) = firing n t i + cond (guard_holds n t (mode n t i)) 1 0
+unfoldable pub true_modes : SystemNet → ℕ → ℕ → ℕ
+true_modes n t zero = 0
+true_modes n t (suc i) = true_modes n t i + cond (guard_holds n t (mode n t i)) 1 0
 
 -- how many modes of the first k transitions have a true guard
-unfoldable pub number : SystemNet → ℕ → ℕ
-number n zero = 0
-number n (suc k) = number n k + firing n k (modes_of n k)
+unfoldable pub true_modes_to : SystemNet → ℕ → ℕ
+true_modes_to n zero = 0
+true_modes_to n (suc k) = true_modes_to n k + true_modes n k (modes_of n k)
 
 module _ {V : Type 0} (d : Meaning V) (codes : List ℤ) (n : SystemNet) where
   -- the values of what a transition takes in a mode, and of what it puts
@@ -57,10 +49,10 @@ module _ {V : Type 0} (d : Meaning V) (codes : List ℤ) (n : SystemNet) where
 
   -- the answer for the transition k
   abbrev pub JudgedModes : ℕ → Verdict V → Type 0
-  JudgedModes k (Ok c) = (c ≡ firing n k (modes_of n k)) × Kept k (modes_of n k)
+  JudgedModes k (Ok c) = (c ≡ true_modes n k (modes_of n k)) × Kept k (modes_of n k)
   JudgedModes k (Err x) = (x.firing.transition ≡ k) × First k x.firing.mode x.before x.after
 
   -- the answer for all transitions
   abbrev pub Judged : Verdict V → Type 0
-  Judged (Ok c) = (c ≡ number n (length n.transitions)) × KeptAll (length n.transitions)
+  Judged (Ok c) = (c ≡ true_modes_to n (length n.transitions)) × KeptAll (length n.transitions)
   Judged (Err x) = (x.firing.transition < length n.transitions) × KeptAll x.firing.transition × First x.firing.transition x.firing.mode x.before x.after

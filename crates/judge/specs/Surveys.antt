@@ -1,17 +1,12 @@
 -- Surveys: all claims judged by their kinds, one after the other, onto a sheet; or why not.
-use Rattle.std.specs.Prelude.{◌≡◌, ℕ, zero, suc, ◌+◌, ◌<◌, ◌≤◌, List, [], ◌∷◌, ◌++◌, length, drop, Ok, Err, Result, slice_index_or}
+use Rattle.std.specs.Prelude.{◌≡◌, ℕ, zero, suc, ◌+◌, ◌<◌, ◌≤◌, List, [], ◌∷◌, ◌++◌, length, drop, Ok, Err, Result}
 use Rattle.lent.specs.Held.{held, memory}
 use Rattle.lent.specs.declared.list.LentList.{LentList}
 use Rattle.term.specs.declared.fault.Fault.{Fault}
 use Rattle.term.specs.declared.fault.Fault.TheVariants as fault
 use Rattle.net.specs.System.{SystemNet}
-use Rattle.net.specs.Nets.{claim_of}
 use Rattle.judge.specs.Calls.{Fits, Memory}
-use Rattle.judge.specs.Kinds.{ByKind, Outcome}
-
--- judging a claim by the kind that it has
-abbrev pub ByItsKind : SystemNet → ℕ → Memory → Memory → Result Outcome Fault → Type 0
-ByItsKind n claim m k r = ByKind (claim_of n claim).kind n claim m k r
+use Rattle.judge.specs.Kinds.{ByItsKind, Outcome}
 
 -- judging the first c claims leads from the memory m to the memory k, with these outcomes
 unfoldable pub Judges : SystemNet → Memory → ℕ → Memory → List Outcome → Type 0
@@ -24,15 +19,10 @@ pub record Noted (s t : LentList Outcome) (os : List Outcome) : Type 0 where
   pub long : length (memory t) ≡ length (memory s)
   pub rest : drop (length (held t)) (memory t) ≡ drop (length (held t)) (memory s)
 
--- the outcome of a claim by its kind, judged from some memory
-abbrev pub Answers : SystemNet → ℕ → Outcome → Type 0
-Answers n claim o = (a : Memory) × ((b : Memory) × ByItsKind n claim a b (Ok o))
-
--- the first c claims are judged onto the sheet, an outcome for each
-pub record Added (n : SystemNet) (m k : Memory) (s t : LentList Outcome) (c : ℕ) : Type 0 where
+-- the first c claims are judged onto the sheet, with an outcome for each
+pub record AllJudged (n : SystemNet) (m k : Memory) (s t : LentList Outcome) (c : ℕ) : Type 0 where
   pub outcomes : List Outcome
   pub judged : Judges n m c k outcomes
-  pub each : (i : ℕ) (x : Outcome) → i < c → Answers n i (slice_index_or outcomes i x)
   pub noted : Noted s t outcomes
 
 -- the memory has the stated lengths, and the sheet has room for all claims
@@ -40,9 +30,9 @@ pub record Ready (n : SystemNet) (m : Memory) (s : LentList Outcome) : Type 0 wh
   pub fits : Fits m
   pub room : length (held s) + length n.claims ≤ length (memory s)
 
--- from the memory m and the sheet s to the memory k and the sheet t
-abbrev pub Surveyed : SystemNet → Memory → Memory → LentList Outcome → LentList Outcome → Result (Unit {0}) Fault → Type 0
-Surveyed n m k s t (Ok u) = Ready n m s × Added n m k s t (length n.claims)
-Surveyed n m k s t (Err fault.Memory) = (Fits m → ⊥) × (k ≡ m) × (t ≡ s)
-Surveyed n m k s t (Err fault.TrailFull) = Fits m × (length (memory s) < length (held s) + length n.claims) × (k ≡ m) × (t ≡ s)
-Surveyed n m k s t (Err e) = ⊥
+-- what a survey answers, from the memory m and the sheet s to the memory k and the sheet t
+abbrev pub SurveyCalled : SystemNet → Memory → Memory → LentList Outcome → LentList Outcome → Result (Unit {0}) Fault → Type 0
+SurveyCalled n m k s t (Ok u) = Ready n m s × AllJudged n m k s t (length n.claims)
+SurveyCalled n m k s t (Err fault.Memory) = (Fits m → ⊥) × (k ≡ m) × (t ≡ s)
+SurveyCalled n m k s t (Err fault.TrailFull) = Fits m × (length (memory s) < length (held s) + length n.claims) × (k ≡ m) × (t ≡ s)
+SurveyCalled n m k s t (Err e) = ⊥

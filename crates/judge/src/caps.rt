@@ -3,10 +3,11 @@ ghost use Rattle.domain.specs.Meaning.{Tells};
 ghost use Rattle.term.specs.Worth.{value_of};
 ghost use Rattle.net.specs.Runs.{initial};
 ghost use Rattle.judge.specs.Calls.{SameLoans, lent, net_of};
-ghost use Rattle.judge.specs.Caps.{AllPlain, Asked, BegunAt, CapIs, Limits};
+ghost use Rattle.judge.specs.Caps.{AllPlain, CanBeginAt, CapCalled, CapIs, Limits};
 
 use crate::judging::Judge;
 use domain::{Measuring, WeightDomain, add_weight};
+use net::CELLS;
 use term::Fault;
 
 impl<'n, 'm> Judge<'n, 'm> {
@@ -19,7 +20,7 @@ impl<'n, 'm> Judge<'n, 'm> {
 
     // The value of the initial marking. Its tokens are few enough that it stays below the largest sum.
     fn initial_value<D: WeightDomain>(&self, d: &D) -> D::Value
-        requires { length self.now.codes.now ≡ 1024 }
+        requires { length self.now.codes.now ≡ CELLS }
         ensures { result ≡ value_of (D.meaning d.now) self.now.codes.now (initial (net_of self.now)) }
     {
         let mut sum = d.zero();
@@ -31,8 +32,8 @@ impl<'n, 'm> Judge<'n, 'm> {
 
     // How many copies of a cell's weight the value of the initial marking has room for.
     fn room<M: Measuring>(&self, cell: usize, m: &M) -> Option<u64>
-        requires long { length self.now.codes.now ≡ 1024 }
-        requires cell { cell < 1024 }
+        requires long { length self.now.codes.now ≡ CELLS }
+        requires cell { cell < CELLS }
         requires plain { AllPlain (M.WeightDomain.meaning m.now) (M.plain m.now) self.now.codes.now }
         ensures { CapIs (M.WeightDomain.meaning m.now) (M.plain m.now) self.now.codes.now (net_of self.now) cell result }
     {
@@ -43,7 +44,7 @@ impl<'n, 'm> Judge<'n, 'm> {
 
     // Whether a call for a cap can begin.
     pub(crate) fn begin_cap(&self, claim: usize, cell: usize) -> Result<(), Fault>
-        ensures { BegunAt (net_of self.now) claim cell (lent self.now) result }
+        ensures { CanBeginAt (net_of self.now) claim cell (lent self.now) result }
     {
         self.begin(claim)?;
         if !self.net.has_cell(cell) {
@@ -60,7 +61,7 @@ impl<'n, 'm> Judge<'n, 'm> {
         cell: usize,
         m: &M,
     ) -> Result<Option<u64>, Fault>
-        ensures asked { Asked (M.WeightDomain.meaning m.now) (M.plain m.now) (net_of self.old) claim cell (lent self.old) (lent self.new) result }
+        ensures asked { CapCalled (M.WeightDomain.meaning m.now) (M.plain m.now) (net_of self.old) claim cell (lent self.old) (lent self.new) result }
         ensures limits { Limits (net_of self.old) cell result }
         ensures same { SameLoans self.old self.new }
     {

@@ -1,22 +1,20 @@
-ghost use Rattle.std.specs.Prelude.{◌≡◌, ◌≤◌, pos, ◌≤ℤ◌, length};
-ghost use Rattle.domain.specs.Domains.{equal};
-ghost use Rattle.net.specs.Nets.{IsKind};
+ghost use Rattle.std.specs.Prelude.{◌≡◌};
 ghost use Rattle.lent.specs.Held.{loan};
 ghost use Rattle.judge.specs.Calls.{SameLoans, lent, net_of};
-ghost use Rattle.judge.specs.Caps.{Asked, AskedByKind, Limits};
-ghost use Rattle.judge.specs.Kinds.{By, ByKind, Weighed};
-ghost use Rattle.judge.specs.Surveys.{Surveyed};
+ghost use Rattle.judge.specs.Caps.{AskedByItsKind, Limits};
+ghost use Rattle.judge.specs.Kinds.{ByItsKind, KindCalled, NeverNoWeight};
+ghost use Rattle.judge.specs.Surveys.{SurveyCalled};
 
 use crate::judging::Judge;
 use crate::verdict::Outcome;
 use domain::{Equal, Kind, NeverRises, Siphon, Turned, WeightDomain};
-use lent::list::LentList;
+use lent::LentList;
 use term::Fault;
 
 impl<'n, 'm> Judge<'n, 'm> {
     // Judges a claim under a domain, and leaves the values out.
     fn outcome<D: WeightDomain>(&mut self, claim: usize, d: &D) -> Result<Outcome, Fault>
-        ensures by { By (D.meaning d.now) (net_of self.old) claim (lent self.old) (lent self.new) result }
+        ensures by { KindCalled (D.meaning d.now) (net_of self.old) claim (lent self.old) (lent self.new) result }
         ensures same { SameLoans self.old self.new }
     {
         // no `map_err`: its proof stays open
@@ -28,9 +26,8 @@ impl<'n, 'm> Judge<'n, 'm> {
 
     // Judges a claim by its kind.
     pub fn judge_by_kind(&mut self, claim: usize) -> Result<Outcome, Fault>
-        ensures kinds { (k : Kind) → IsKind (net_of self.old) claim k → ByKind k (net_of self.old) claim (lent self.old) (lent self.new) result }
-        ensures none { length (net_of self.old).claims ≤ claim → By equal (net_of self.old) claim (lent self.old) (lent self.new) result }
-        ensures weighed { Weighed result }
+        ensures called { ByItsKind (net_of self.old) claim (lent self.old) (lent self.new) result }
+        ensures weighed { NeverNoWeight result }
         ensures same { SameLoans self.old self.new }
     {
         match self.net.kind(claim) {
@@ -46,9 +43,8 @@ impl<'n, 'm> Judge<'n, 'm> {
     // The cap of a cell by a claim's kind. Kinds that do not measure have none: those that do must each name the type
     // of their domain.
     pub fn cap_by_kind(&mut self, claim: usize, cell: usize) -> Result<Option<u64>, Fault>
-        ensures kinds { (k : Kind) → IsKind (net_of self.old) claim k → AskedByKind k (net_of self.old) claim cell (lent self.old) (lent self.new) result }
-        ensures none { length (net_of self.old).claims ≤ claim → Asked equal (λ v. pos 0 ≤ℤ v) (net_of self.old) claim cell (lent self.old) (lent self.new) result }
-        ensures weighed { Weighed result }
+        ensures called { AskedByItsKind (net_of self.old) claim cell (lent self.old) (lent self.new) result }
+        ensures weighed { NeverNoWeight result }
         ensures limits { Limits (net_of self.old) cell result }
         ensures same { SameLoans self.old self.new }
     {
@@ -66,7 +62,7 @@ impl<'n, 'm> Judge<'n, 'm> {
 
     // Judges every claim by its kind, one after the other, and adds one verdict each to the sheet.
     pub fn survey(&mut self, sheet: &mut LentList<Outcome>) -> Result<(), Fault>
-        ensures surveyed { Surveyed (net_of self.old) (lent self.old) (lent self.new) sheet.old sheet.new result }
+        ensures surveyed { SurveyCalled (net_of self.old) (lent self.old) (lent self.new) sheet.old sheet.new result }
         ensures same { SameLoans self.old self.new }
         ensures loan { loan sheet.new ≡ loan sheet.old }
     {

@@ -1,6 +1,6 @@
 ghost use Rattle.std.specs.Prelude.{◌≡◌, ◌<◌, length};
 ghost use Rattle.domain.specs.Meaning.{Tells};
-ghost use Rattle.judge.specs.Calls.{AllWeigh, Begun, Called, Fits, Left, Loaded, SameLoans, VerdictOn, lent, net_of};
+ghost use Rattle.judge.specs.Calls.{AllWeigh, CanBegin, Fits, JudgeCalled, Left, Loaded, SameLoans, VerdictOn, lent, net_of};
 ghost use Rattle.judge.specs.Judged.{Judged, JudgedModes};
 
 use crate::judging::Judge;
@@ -88,7 +88,7 @@ impl<'n, 'm> Judge<'n, 'm> {
 
     // Whether a call can begin.
     pub(crate) fn begin(&self, claim: usize) -> Result<(), Fault>
-        ensures { Begun (net_of self.now) claim (lent self.now) result }
+        ensures { CanBegin (net_of self.now) claim (lent self.now) result }
     {
         if !self.is_measured() {
             return Err(Fault::Memory);
@@ -119,7 +119,7 @@ impl<'n, 'm> Judge<'n, 'm> {
         claim: usize,
         d: &D,
     ) -> Result<Verdict<D::Value>, Fault>
-        ensures called { Called (D.meaning d.now) (net_of self.old) claim (lent self.old) (lent self.new) result }
+        ensures called { JudgeCalled (D.meaning d.now) (net_of self.old) claim (lent self.old) (lent self.new) result }
         ensures same { SameLoans self.old self.new }
     {
         self.begin(claim)?;

@@ -1,7 +1,7 @@
 // A list that grows in memory which its maker lends it.
 #![tactic(auto)]
 
-pub mod list;
+mod list;
 
 pub use list::{Full, LentList};
 

@@ -3,8 +3,7 @@ use Rattle.std.proofs.Common.{◌≡◌, ℕ, ◌+◌, ◌-◌, ◌^◌, List, [
 use Rattle.std.proofs.lemmas.List.{map-append}
 use Rattle.std.proofs.lemmas.List.Sums.{sum_by_push}
 use Rattle.net.specs.declared.parts.Transition as parts
-use Rattle.net.specs.Reading.{arcs_in}
-use Rattle.net.specs.System.{transition_told}
+use Rattle.net.specs.System.{arcs_in, transition_told}
 
 pub arcs_more : (ys : List parts.Transition) (t : parts.Transition) (a b : ℕ) → a ≡ min (sum_by arcs_in (map transition_told ys)) (2 ^ 64 - 1) → b ≡ min (a + arcs_in (transition_told t)) (2 ^ 64 - 1)
     → b ≡ min (sum_by arcs_in (map transition_told (ys ++ t ∷ []))) (2 ^ 64 - 1)

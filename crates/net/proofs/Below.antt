@@ -8,7 +8,7 @@ use Rattle.term.specs.Meaning.{Bag, Sig, Term, apply, bag_operation, bag_sorted,
 use Rattle.term.specs.Prefix.{Read, ReadBag, applied, bag_at, begins, missing, term_at}
 use Rattle.term.specs.declared.signature.Arguments.{Arguments}
 use Rattle.term.specs.declared.signature.Arguments.TheVariants as arguments
-use Rattle.net.specs.Sound.{SoundOperation}
+use Rattle.net.specs.WellFormed.{WellFormedOperation}
 
 -- values of the arguments that there are, 0 for the others
 abbrev Among : Sig → Arguments → ℕ → ℕ → Type 0
@@ -26,10 +26,10 @@ pub truth_below : (t : Bool) → truth t < 2
 truth_below true = omega arith
 truth_below false = omega arith
 
-module _ (s : Sig) (sound : All (SoundOperation s.sizes) s.operations) (truths : 2 ≤ size s 0) (vars m : List ℕ) (mode : (v : ℕ) → v < length vars → get_or m v 0 < size s (get_or vars v 0)) where
+module _ (s : Sig) (well_formed : All (WellFormedOperation s.sizes) s.operations) (truths : 2 ≤ size s 0) (vars m : List ℕ) (mode : (v : ℕ) → v < length vars → get_or m v 0 < size s (get_or vars v 0)) where
   result_below : (k : ℕ) → k < length s.operations → (a : Arguments) → (operation s k).arguments ≡ a → (x y : ℕ) → Among s a x y → result s (operation s k) x y < size s (operation s k).result
   result_below k there a z x y h =
-      let o = sound k no_operation there in
+      let o = well_formed k no_operation there in
       let at = x * width s (operation s k).arguments + y in
       let e = ap (λ l. x * width s l + y) z in
       let f = ap (combinations s.sizes) z in

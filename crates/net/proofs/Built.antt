@@ -1,16 +1,18 @@
 -- A net as it is built, command by command: what holds of it in each section of a file.
 use Rattle.std.proofs.Common.{◌≡◌, ℕ, ◌+◌, ◌*◌, ◌<◌, ◌≤◌, true, List, [], ◌∷◌, ◌++◌, length, set, ℤ, arith}
-use Rattle.domain.specs.Kinds.{kind_of, kind_weighs}
-use Rattle.format.specs.Commands.{arc, arguments_of, bag_operation, claim, element_weight, guard, operation, place, place_weight, sort, tokens, transition}
+use Rattle.domain.specs.declared.kind.Kind.{Kind}
+use Rattle.domain.specs.Kinds.{kind_weighs}
+use Rattle.format.specs.Commands.{arc, bag_operation, claim, element_weight, guard, operation, place, place_weight, sort, tokens, transition}
 use Rattle.format.specs.Format.{place_size}
 use Rattle.format.specs.declared.command.Direction.{Direction}
 use Rattle.format.specs.declared.section.Section.{Section}
+use Rattle.term.specs.declared.signature.Arguments.{Arguments}
 use Rattle.term.specs.Meaning.{BagOperation, Operation, Sig}
 use Rattle.net.specs.declared.parts.Claim.{Claim}
 use Rattle.net.specs.Nets.{no_claim}
-use Rattle.net.specs.Reading.{add, arc_count, newest}
-use Rattle.net.specs.Sound.{IsTerm, SoundArc, SoundBagOperation, SoundOperation}
-use Rattle.net.specs.System.{SystemNet, Transition, no_transition}
+use Rattle.net.specs.Reading.{add, newest}
+use Rattle.net.specs.WellFormed.{IsTerm, WellFormedArc, WellFormedBagOperation, WellFormedOperation}
+use Rattle.net.specs.System.{SystemNet, Transition, arc_count, most_arcs, most_bag_operations, most_claims, most_operations, most_places, most_sorts, most_transitions, no_transition}
 use Rattle.net.proofs.Cells.{Marked, marked_place, marked_sort, marked_tokens}
 use Rattle.net.proofs.Codings.{Codings, codings_before, codings_claim, codings_element, codings_place}
 use Rattle.net.proofs.Moves.{Moves, moves_arc, moves_before, moves_guard, moves_transition}
@@ -44,7 +46,7 @@ module _ (s s' : Section) (n : SystemNet) (b : Built s n) where
     };
   }
 
-  pub add_sort : (k : ℕ) → 1 ≤ k → k ≤ 64 → length n.sig.sizes < 8 → Opens 0 s s' → Built s' (add n (sort k))
+  pub add_sort : (k : ℕ) → 1 ≤ k → k ≤ 64 → length n.sig.sizes < most_sorts → Opens 0 s s' → Built s' (add n (sort k))
   add_sort k low high room o =
       let first : rank s ≤ 0 = o.0 in
       let none = b.stage.operations (omega arith) in
@@ -52,14 +54,14 @@ module _ (s s' : Section) (n : SystemNet) (b : Built s n) where
       other_sig (record n.sig { sizes = n.sig.sizes ++ k ∷ [] }) (with_sort n.sig b.sig k low high room none no_bags)
       (marked_sort n.sig.sizes n.places n.initial b.marking (b.stage.places (omega arith)) (n.sig.sizes ++ k ∷ [])) (omega arith) (λ _. none) (λ _. no_bags)
 
-  pub add_operation : (k x y r : ℕ) (t : List ℕ) → SoundOperation n.sig.sizes (record { arguments = arguments_of k x y; result = r; table = t }) → length n.sig.operations < 32 → Opens 1 s s'
-      → Built s' (add n (operation k x y r t))
-  add_operation k x y r t h room o =
-      let new : Operation = record { arguments = arguments_of k x y; result = r; table = t } in
+  pub add_operation : (a : Arguments) (r : ℕ) (t : List ℕ) → WellFormedOperation n.sig.sizes (record { arguments = a; result = r; table = t }) → length n.sig.operations < most_operations → Opens 1 s s'
+      → Built s' (add n (operation a r t))
+  add_operation a r t h room o =
+      let new : Operation = record { arguments = a; result = r; table = t } in
       let second : rank s' ≡ 1 = o.1 in
       other_sig (record n.sig { operations = n.sig.operations ++ new ∷ [] }) (with_operation n.sig b.sig new h room) b.marking o.0 (λ l. let z : ⊥ = omega arith in absurd z) (λ l. let z : ⊥ = omega arith in absurd z)
 
-  pub add_bag_operation : (x r : ℕ) (t : List ℕ) → SoundBagOperation n.sig.sizes (record { argument = x; result = r; table = t }) → length n.sig.bags < 8 → Opens 1 s s' → Built s' (add n (bag_operation x r t))
+  pub add_bag_operation : (x r : ℕ) (t : List ℕ) → WellFormedBagOperation n.sig.sizes (record { argument = x; result = r; table = t }) → length n.sig.bags < most_bag_operations → Opens 1 s s' → Built s' (add n (bag_operation x r t))
   add_bag_operation x r t h room o =
       let new : BagOperation = record { argument = x; result = r; table = t } in
       let second : rank s' ≡ 1 = o.1 in
@@ -84,7 +86,7 @@ module _ (s s' : Section) (n : SystemNet) (b : Built s n) where
         };
       }
 
-  pub add_place : (x : ℕ) → x < length n.sig.sizes → length n.places < 16 → Opens 2 s s' → Built s' (add n (place x))
+  pub add_place : (x : ℕ) → x < length n.sig.sizes → length n.places < most_places → Opens 2 s s' → Built s' (add n (place x))
   add_place x known room o = other_cells (n.places ++ x ∷ []) n.initial (marked_place n.sig.sizes n.places n.initial b.marking room x known) o
 
   pub add_tokens : (p e k : ℕ) → e < place_size n.sig.sizes n.places p → k < 65536 → Opens 2 s s' → Built s' (add n (tokens p e k))
@@ -109,13 +111,13 @@ module _ (s s' : Section) (n : SystemNet) (b : Built s n) where
         };
       }
 
-  pub add_transition : (v : List ℕ) → Varied n.sig.sizes v → length n.transitions < 32 → Opens 3 s s' → Built s' (add n (transition v))
+  pub add_transition : (v : List ℕ) → Varied n.sig.sizes v → length n.transitions < most_transitions → Opens 3 s s' → Built s' (add n (transition v))
   add_transition v h room o = other_moves (add n (transition v)).transitions (moves_transition n.sig n.places n.transitions b.moves room v h) o
 
   pub add_guard : (t : List ℕ) → IsTerm n.sig (newest n.transitions no_transition).sorts 0 t → Opens 3 s s' → Built s' (add n (guard t))
   add_guard t h o = other_moves (add n (guard t)).transitions (moves_guard n.sig n.places n.transitions b.moves t h) o
 
-  pub add_arc : (d : Direction) (p : ℕ) (t : List ℕ) → SoundArc n.sig n.places (newest n.transitions no_transition).sorts (record { place = p; bag = t }) → arc_count n < 128 → Opens 3 s s' → Built s' (add n (arc d p t))
+  pub add_arc : (d : Direction) (p : ℕ) (t : List ℕ) → WellFormedArc n.sig n.places (newest n.transitions no_transition).sorts (record { place = p; bag = t }) → arc_count n < most_arcs → Opens 3 s s' → Built s' (add n (arc d p t))
   add_arc d p t h room o = other_moves (add n (arc d p t)).transitions (moves_arc n.sig n.places n.transitions b.moves d (record { place = p; bag = t }) room h) o
 
   -- claims and their codes
@@ -136,8 +138,8 @@ module _ (s s' : Section) (n : SystemNet) (b : Built s n) where
         };
       }
 
-  pub add_claim : (k m : ℕ) → length n.claims < 16 → Opens 4 s s' → Built s' (add n (claim k m))
-  add_claim k m room o = other_codings (add n (claim k m)).claims (codings_claim n.sig.sizes n.places n.claims b.codings room (kind_of k m)) o
+  pub add_claim : (k : Kind) → length n.claims < most_claims → Opens 4 s s' → Built s' (add n (claim k))
+  add_claim k room o = other_codings (add n (claim k)).claims (codings_claim n.sig.sizes n.places n.claims b.codings room k) o
 
   pub add_place_weight : (p : ℕ) (c : ℤ) → kind_weighs (newest n.claims no_claim).kind c ≡ true → Opens 4 s s' → Built s' (add n (place_weight p c))
   add_place_weight p c h o = other_codings (add n (place_weight p c)).claims (codings_place n.sig.sizes n.places n.claims b.codings (small n.sig b.sig) p c h) o

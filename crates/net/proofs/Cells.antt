@@ -7,8 +7,10 @@ use Rattle.std.proofs.lemmas.Bool.{both_ways, cases_eq, cases_lt, cond_both, con
 use Rattle.domain.specs.Kinds.{kind_weighs}
 use Rattle.domain.specs.declared.kind.Kind.{Kind}
 use Rattle.domain.specs.declared.kind.Kind.TheVariants.{Equal, NeverRises, NeverFalls, Modulo, Trap, Siphon}
-use Rattle.format.specs.Format.{place_size, size_of}
+use Rattle.format.specs.Format.{place_size}
+use Rattle.term.specs.Meaning.{size_of}
 use Rattle.net.specs.Reading.{put_row}
+use Rattle.net.specs.System.{most_places}
 use Rattle.net.proofs.Anywhere.{anywhere}
 
 -- an element after a change at j, which is itself changed only there
@@ -60,9 +62,9 @@ module _ (sizes places : List ℕ) where
       (λ (l : length places ≤ c / 64). off c l)
       (cases_lt (c / 64) (length places))
 
--- at most 16 places, of declared sorts; 1,024 counts of 16 bits, 0 where there is no cell
+-- within the limit of places, which are of declared sorts; 1,024 counts of 16 bits, 0 where there is no cell
 pub record Marked (sizes places initial : List ℕ) : Type 0 where
-  pub few : length places ≤ 16
+  pub few : length places ≤ most_places
   pub sorts : All (λ s. s < length sizes) places
   pub long : length initial ≡ 1024
   pub small : All (λ k. k < 2 ^ 16) initial
@@ -73,7 +75,7 @@ module _ (sizes places initial : List ℕ) (m : Marked sizes places initial) whe
   pub marked_sort : length places ≡ 0 → (other : List ℕ) → Marked other places initial
   marked_sort h other = record { few = m.few; sorts = λ i d l. let z : ⊥ = omega arith in absurd z; long = m.long; small = m.small; none = λ c _. m.none c (off sizes places c (omega arith)) }
 
-  pub marked_place : length places < 16 → (s : ℕ) → s < length sizes → Marked sizes (places ++ s ∷ []) initial
+  pub marked_place : length places < most_places → (s : ℕ) → s < length sizes → Marked sizes (places ++ s ∷ []) initial
   marked_place h s k = record { few = omega (arith, length_push places s); sorts = All-push (λ j. j < length sizes) places s m.sorts k; long = m.long; small = m.small; none = λ c f. m.none c (grows sizes places s c f) }
 
   pub marked_tokens : ((k : ℕ) → size_of sizes k ≤ 64) → (p e k : ℕ) → e < place_size sizes places p → k < 65536 → Marked sizes places (set initial (64 * p + e) k)

@@ -3,8 +3,7 @@ use Rattle.std.proofs.Common.{◌≡◌, ℕ, zero, suc, ◌-◌, ◌<◌, Bool,
 use Rattle.std.proofs.lemmas.List.{append_assoc, length-append, take_at}
 use Rattle.std.proofs.lemmas.Bool.{cond_both}
 use Rattle.std.proofs.lemmas.Bool.Decides.{nat_tests}
-use Rattle.term.specs.Check.{Checked, Front, bad, check_bag, check_term, constant_at, done, equality_at, application_at, flexible_at, front, head_at, in_term, logic_at, none, parts, then, variable_at}
-use Rattle.term.specs.declared.fault.Fault.TheVariants as fail
+use Rattle.term.specs.Check.{Checked, Front, bad, check_bag, check_term, constant_at, done, equality_at, application_at, flexible_at, front, head_at, logic_at, none, parts, then, variable_at}
 use Rattle.term.specs.Meaning.{Bag, Sig, Term, apply, bag_operation, bag_sorted, both, constant, each, empty, equal, flexible, negate, operation, size, single, sorted, sum, variable}
 use Rattle.term.specs.Prefix.{Read, ReadBag, applied, bag_at, bag_front, missing, one, term_at, two}
 use Rattle.term.specs.declared.fault.FileFault.{FileFault}
@@ -191,7 +190,7 @@ module _ (s : Sig) (vars : List ℕ) (ends : ℕ) where
   pub term_spelt : (d want : ℕ) (bs : List ℕ) → Leaves (Spelt s vars d want bs) (check_term s vars ends d want bs)
   term_spelt zero want [] = tt
   term_spelt zero want (c ∷ xs) =
-      let P : Front → Type 0 = λ f. Leaves (Spelt s vars zero want (c ∷ xs)) (parts (λ t r. bad (in_term fail.Deep 0)) f) in
+      let P : Front → Type 0 = λ f. Leaves (Spelt s vars zero want (c ∷ xs)) (parts (λ t r. done r) f) in
       tested P (ltb 0 (length (c ∷ xs))) _ _ tt (λ long. tested P (leb 0x20 c && leb c 0x25) _ _ tt (λ known. tt))
   term_spelt (suc d) want bs = head_spelt d want (term_spelt d) bs
 

@@ -6,10 +6,12 @@ use Rattle.std.proofs.lemmas.List.Elements.{All-push, All-replicate, All-set}
 use Rattle.std.proofs.lemmas.Bool.{both_ways}
 use Rattle.domain.specs.Kinds.{kind_weighs}
 use Rattle.domain.specs.declared.kind.Kind.{Kind}
-use Rattle.format.specs.Format.{place_size, size_of}
+use Rattle.format.specs.Format.{place_size}
+use Rattle.term.specs.Meaning.{size_of}
 use Rattle.net.specs.declared.parts.Claim.{Claim}
 use Rattle.net.specs.Nets.{no_claim}
 use Rattle.net.specs.Reading.{coded, newest, put_row, renew, unweighted}
+use Rattle.net.specs.System.{most_claims}
 use Rattle.net.proofs.Cells.{alike, cell, changed_at, in_row, row_all, row_at, row_length, zero_weighs}
 use Rattle.net.proofs.Newest.{renew_all}
 
@@ -19,9 +21,9 @@ pub record Weighted (sizes places : List ℕ) (k : Claim) : Type 0 where
   pub weights : All (λ c. kind_weighs k.kind c ≡ true) k.codes
   pub none : (c : ℕ) → cell sizes places c ≡ false → get_or k.codes c (pos 0) ≡ pos 0
 
--- at most 16 claims
+-- within the limit of claims
 pub record Codings (sizes places : List ℕ) (claims : List Claim) : Type 0 where
-  pub few : length claims ≤ 16
+  pub few : length claims ≤ most_claims
   pub all : All (Weighted sizes places) claims
 
 module _ (sizes places : List ℕ) (claims : List Claim) (f : Codings sizes places claims) where
@@ -29,7 +31,7 @@ module _ (sizes places : List ℕ) (claims : List Claim) (f : Codings sizes plac
   pub codings_before : length claims ≡ 0 → (others more : List ℕ) → Codings others more claims
   codings_before h others more = record { few = f.few; all = λ i d l. let z : ⊥ = omega arith in absurd z }
 
-  pub codings_claim : length claims < 16 → (k : Kind) → Codings sizes places (claims ++ unweighted k ∷ [])
+  pub codings_claim : length claims < most_claims → (k : Kind) → Codings sizes places (claims ++ unweighted k ∷ [])
   codings_claim room k = record {
     few = omega (arith, length_push claims (unweighted k));
     all = All-push (Weighted sizes places) claims (unweighted k) f.all (record {

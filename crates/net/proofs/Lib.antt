@@ -16,7 +16,7 @@ pub mod Outside
 pub mod Renewed
 pub mod Sides
 pub mod Signatures
-pub mod Soundness
 pub mod Stages
 pub mod Tallied
 pub mod Turns
+pub mod WellFormedness

@@ -7,18 +7,17 @@ use Rattle.std.proofs.lemmas.List.Sums.{sum_by_push}
 use Rattle.format.specs.declared.command.Direction.{Direction}
 use Rattle.format.specs.declared.command.Direction.TheVariants as direction
 use Rattle.term.specs.Meaning.{Sig}
-use Rattle.net.specs.Reading.{arcs_in, bare, guarded, linked, newest, renew}
-use Rattle.net.specs.Sound.{IsTerm, SoundArc, SoundTransition, bytes_of}
-use Rattle.net.specs.Spans.{Arc, span}
-use Rattle.net.specs.System.{Transition, no_transition}
+use Rattle.net.specs.Reading.{bare, guarded, linked, newest, renew}
+use Rattle.net.specs.WellFormed.{IsTerm, WellFormedArc, WellFormedTransition, bytes_of, span}
+use Rattle.net.specs.System.{Arc, Transition, arcs_in, most_arcs, most_transitions, no_transition}
 use Rattle.net.proofs.Newest.{renew_all, renew_sum}
 use Rattle.net.proofs.Operands.{Varied}
 
--- at most 32 transitions, which are sound, and 128 arcs
+-- within the limits of transitions, which are well-formed, and of arcs
 pub record Moves (s : Sig) (places : List ℕ) (ts : List Transition) : Type 0 where
-  pub few : length ts ≤ 32
-  pub all : All (SoundTransition s places) ts
-  pub few_arcs : sum_by arcs_in ts ≤ 128
+  pub few : length ts ≤ most_transitions
+  pub all : All (WellFormedTransition s places) ts
+  pub few_arcs : sum_by arcs_in ts ≤ most_arcs
 
 -- one arc more
 linked_arcs : (d : Direction) (a : Arc) (t : Transition) → arcs_in (linked d a t) ≤ arcs_in t + 1
@@ -30,17 +29,17 @@ module _ (s : Sig) (places : List ℕ) (ts : List Transition) (m : Moves s place
   pub moves_before : length ts ≡ 0 → (sig : Sig) (others : List ℕ) → Moves sig others ts
   moves_before h sig others = record { few = m.few; all = λ i d l. let z : ⊥ = omega arith in absurd z; few_arcs = m.few_arcs }
 
-  pub moves_transition : length ts < 32 → (v : List ℕ) → Varied s.sizes v → Moves s places (ts ++ bare s.sizes v ∷ [])
+  pub moves_transition : length ts < most_transitions → (v : List ℕ) → Varied s.sizes v → Moves s places (ts ++ bare s.sizes v ∷ [])
   moves_transition room v h = record {
     few = omega (arith, length_push ts (bare s.sizes v));
-    all = All-push (SoundTransition s places) ts (bare s.sizes v) m.all (record {
+    all = All-push (WellFormedTransition s places) ts (bare s.sizes v) m.all (record {
       few = h.few;
       sorts = h.sorts;
       sizes = refl;
       modes = h.modes;
       guard = tt;
-      takes = All-nil (SoundArc s places v);
-      puts = All-nil (SoundArc s places v);
+      takes = All-nil (WellFormedArc s places v);
+      puts = All-nil (WellFormedArc s places v);
     });
     few_arcs = omega (arith, m.few_arcs, sum_by_push arcs_in ts (bare s.sizes v));
   }
@@ -49,9 +48,9 @@ module _ (s : Sig) (places : List ℕ) (ts : List Transition) (m : Moves s place
   last = newest ts no_transition
 
   abbrev fits : Transition → Type 0
-  fits = SoundTransition s places
+  fits = WellFormedTransition s places
 
-  same_number : (g : Transition → Transition) → length (renew ts no_transition g) ≤ 32
+  same_number : (g : Transition → Transition) → length (renew ts no_transition g) ≤ most_transitions
   same_number g = omega (arith, m.few, length-set ts (length ts - 1) (g last))
 
   pub moves_guard : (t : List ℕ) → IsTerm s last.sorts 0 t → Moves s places (renew ts no_transition (guarded t))
@@ -61,11 +60,11 @@ module _ (s : Sig) (places : List ℕ) (ts : List Transition) (m : Moves s place
     few_arcs = let k = renew_sum no_transition (guarded t) arcs_in ts 0 (omega arith) in omega (arith, m.few_arcs);
   }
 
-  with_arc : (d : Direction) (a : Arc) → SoundArc s places last.sorts a → fits last → fits (linked d a last)
-  with_arc direction.In a h f = record { few = f.few; sorts = f.sorts; sizes = f.sizes; modes = f.modes; guard = f.guard; takes = All-push (SoundArc s places last.sorts) last.takes a f.takes h; puts = f.puts }
-  with_arc direction.Out a h f = record { few = f.few; sorts = f.sorts; sizes = f.sizes; modes = f.modes; guard = f.guard; takes = f.takes; puts = All-push (SoundArc s places last.sorts) last.puts a f.puts h }
+  with_arc : (d : Direction) (a : Arc) → WellFormedArc s places last.sorts a → fits last → fits (linked d a last)
+  with_arc direction.In a h f = record { few = f.few; sorts = f.sorts; sizes = f.sizes; modes = f.modes; guard = f.guard; takes = All-push (WellFormedArc s places last.sorts) last.takes a f.takes h; puts = f.puts }
+  with_arc direction.Out a h f = record { few = f.few; sorts = f.sorts; sizes = f.sizes; modes = f.modes; guard = f.guard; takes = f.takes; puts = All-push (WellFormedArc s places last.sorts) last.puts a f.puts h }
 
-  pub moves_arc : (d : Direction) (a : Arc) → sum_by arcs_in ts < 128 → SoundArc s places last.sorts a → Moves s places (renew ts no_transition (linked d a))
+  pub moves_arc : (d : Direction) (a : Arc) → sum_by arcs_in ts < most_arcs → WellFormedArc s places last.sorts a → Moves s places (renew ts no_transition (linked d a))
   moves_arc d a room h = record {
     few = same_number (linked d a);
     all = renew_all no_transition (linked d a) fits ts m.all (with_arc d a h);

@@ -5,40 +5,42 @@ use Rattle.std.proofs.lemmas.List.{append-nil, drop_at, length-append, length-dr
 use Rattle.std.proofs.lemmas.List.Elements.{All-cons, All-drop, All-nil, All-take}
 use Rattle.std.proofs.lemmas.Bool.{and_parts, cond_both}
 use Rattle.std.proofs.lemmas.Option.{none-some}
-use Rattle.domain.specs.Kinds.{kind_weighs}
+use Rattle.domain.specs.Kinds.{kind_of, kind_weighs}
+use Rattle.domain.specs.declared.kind.Kind.{Kind}
 use Rattle.term.specs.Check.{Checked, bad, done}
-use Rattle.term.specs.Meaning.{Sig, bag_sorted, sorted}
+use Rattle.term.specs.Meaning.{Sig, bag_sorted, size_of, sorted}
 use Rattle.term.specs.Prefix.{Read, ReadBag, bag_at, term_at}
 use Rattle.term.specs.declared.fault.FileFault.{FileFault}
+use Rattle.term.specs.declared.signature.Arguments.{Arguments}
 use Rattle.format.specs.Commands.{Said, arc, arguments_of, bag_operation, claim, element_weight, end, fault, guard, operation, place, place_weight, said, sort, tokens, transition}
 use Rattle.format.specs.Commands as commands
-use Rattle.format.specs.Format.{Setting, arc_at, arc_bag, both, combinations, counts_at, first_bad, fitting, front_of, guard_term, mode_count, modulus_fits, neither, parse_at, place_size, signed, size_of, unless_bad, variable_sizes, with_table, with_term}
+use Rattle.format.specs.Format.{Setting, arc_at, arc_bag, both, combinations, counts_at, first_bad, fitting, front_of, guard_term, mode_count, modulus_fits, most_modes, neither, parse_at, place_size, signed, unless_bad, variable_sizes, with_table, with_term}
 use Rattle.format.specs.declared.command.Code.{Code}
 use Rattle.format.specs.declared.command.Code.TheVariants as code
 use Rattle.format.specs.declared.command.Direction.{Direction}
 use Rattle.format.specs.declared.command.Direction.TheVariants as direction
-use Rattle.net.specs.Sound.{ArgumentsDeclared, Bytes, IsBag, IsTerm, SoundArc, SoundBagOperation, SoundOperation}
+use Rattle.net.specs.WellFormed.{ArgumentsDeclared, Bytes, IsBag, IsTerm, WellFormedArc, WellFormedBagOperation, WellFormedOperation}
 use Rattle.net.specs.Written.{bag_bytes, term_bytes}
 use Rattle.net.proofs.Checked.{Leaves, Spelt, SpeltBag, bag_spelt, leave, own_front, term_spelt}
 
--- a transition has at most 4 variables, of declared sorts, and 65,536 modes
+-- a transition has at most 4 variables, of declared sorts, and not too many modes
 pub record Varied (sizes : List ℕ) (v : List ℕ) : Type 0 where
   pub few : length v ≤ 4
   pub sorts : All (λ k. k < length sizes) v
-  pub modes : mode_count (variable_sizes sizes (length v) v) ≤ 65536
+  pub modes : mode_count (variable_sizes sizes (length v) v) ≤ most_modes
 
 -- what the format says under each code, in a file of bytes
 pub data Heard (x : Setting) : Code → Said → Type 0 where
   heard_sort : (n : ℕ) → 1 ≤ n → n ≤ 64 → Heard x code.Sort (sort n)
-  heard_operation : (n a b r : ℕ) (t : List ℕ) → SoundOperation x.signature.sizes (record { arguments = arguments_of n a b; result = r; table = t }) → Heard x code.Operation (operation n a b r t)
-  heard_bag_operation : (a r : ℕ) (t : List ℕ) → SoundBagOperation x.signature.sizes (record { argument = a; result = r; table = t }) → Heard x code.BagOperation (bag_operation a r t)
+  heard_operation : (a : Arguments) (r : ℕ) (t : List ℕ) → WellFormedOperation x.signature.sizes (record { arguments = a; result = r; table = t }) → Heard x code.Operation (operation a r t)
+  heard_bag_operation : (a r : ℕ) (t : List ℕ) → WellFormedBagOperation x.signature.sizes (record { argument = a; result = r; table = t }) → Heard x code.BagOperation (bag_operation a r t)
   heard_place : (s : ℕ) → s < length x.signature.sizes → Heard x code.Place (place s)
   heard_tokens : (p e n : ℕ) → e < place_size x.signature.sizes x.places p → n < 65536 → Heard x code.Tokens (tokens p e n)
   heard_transition : (v : List ℕ) → Varied x.signature.sizes v → Heard x code.Transition (transition v)
   heard_guard : (t : List ℕ) → IsTerm x.signature x.variables 0 t → Heard x code.Guard (guard t)
-  heard_in : (p : ℕ) (t : List ℕ) → SoundArc x.signature x.places x.variables (record { place = p; bag = t }) → Heard x code.InArc (arc direction.In p t)
-  heard_out : (p : ℕ) (t : List ℕ) → SoundArc x.signature x.places x.variables (record { place = p; bag = t }) → Heard x code.OutArc (arc direction.Out p t)
-  heard_claim : (k m : ℕ) → Heard x code.Claim (claim k m)
+  heard_in : (p : ℕ) (t : List ℕ) → WellFormedArc x.signature x.places x.variables (record { place = p; bag = t }) → Heard x code.InArc (arc direction.In p t)
+  heard_out : (p : ℕ) (t : List ℕ) → WellFormedArc x.signature x.places x.variables (record { place = p; bag = t }) → Heard x code.OutArc (arc direction.Out p t)
+  heard_claim : (k : Kind) → Heard x code.Claim (claim k)
   heard_place_weight : (p : ℕ) (c : ℤ) → kind_weighs x.kind c ≡ true → Heard x code.PlaceWeight (place_weight p c)
   heard_element_weight : (p e : ℕ) (c : ℤ) → e < place_size x.signature.sizes x.places p → kind_weighs x.kind c ≡ true → Heard x code.ElementWeight (element_weight p e c)
   heard_end : Heard x code.End end
@@ -46,14 +48,14 @@ pub data Heard (x : Setting) : Code → Said → Type 0 where
 -- the bytes of a guard or a bag
 abbrev pub text : Said → List ℕ
 text (sort n) = []
-text (operation n a b r t) = []
+text (operation a r t) = []
 text (bag_operation a r t) = []
 text (place s) = []
 text (tokens p e n) = []
 text (transition v) = []
 text (guard t) = t
 text (arc d p t) = t
-text (claim k m) = []
+text (claim k) = []
 text (place_weight p c) = []
 text (element_weight p e c) = []
 text end = []
@@ -124,7 +126,7 @@ module _ (sizes : List ℕ) (a b c d : ℕ) (r : List ℕ) where
   P k = k < length sizes
 
   first_fit : (n : ℕ) → n ≤ 4 → fitting sizes (ltb 0 n) a ≡ true → fitting sizes (ltb 1 n) b ≡ true → fitting sizes (ltb 2 n) c ≡ true → fitting sizes (ltb 3 n) d ≡ true
-      → mode_count (variable_sizes sizes n (a ∷ b ∷ c ∷ d ∷ [])) ≤ 65536 → Varied sizes (take n (a ∷ b ∷ c ∷ d ∷ r))
+      → mode_count (variable_sizes sizes n (a ∷ b ∷ c ∷ d ∷ [])) ≤ most_modes → Varied sizes (take n (a ∷ b ∷ c ∷ d ∷ r))
   first_fit zero h p q s t m = record { few = omega arith; sorts = All-nil P; modes = m }
   first_fit (suc zero) h p q s t m = record { few = omega arith; sorts = All-cons P a [] (ltb-true _ _ p) (All-nil P); modes = m }
   first_fit (suc (suc zero)) h p q s t m = record { few = omega arith; sorts = All-cons P a (b ∷ []) (ltb-true _ _ p) (All-cons P b [] (ltb-true _ _ q) (All-nil P)); modes = m }
@@ -180,7 +182,7 @@ module _ (x : Setting) (bs : List ℕ) (bytes : Bytes bs) where
   worded k s Q some there same (done r) h v = record { heard = v (front_of (drop k bs) r) h.0; shorter = omega (arith, same (front_of (drop k bs) r), length-drop k bs, h.1.long); rest = h.1.rest }
   worded k s Q some there same (bad e) h v = tt
 
-  arc_taken : (c : Code) (d : Direction) → ((p : ℕ) (t : List ℕ) → SoundArc x.signature x.places vars (record { place = p; bag = t }) → Heard x c (arc d p t)) → Goal c (arc_at x.signature x.places d vars bs x.ends)
+  arc_taken : (c : Code) (d : Direction) → ((p : ℕ) (t : List ℕ) → WellFormedArc x.signature x.places vars (record { place = p; bag = t }) → Heard x c (arc d p t)) → Goal c (arc_at x.signature x.places d vars bs x.ends)
   arc_taken c d heard =
       let want = get_or x.places (at 1) 0 in
       when _ (ltb 1 (length bs)) _ _ (λ l1. when _ (ltb (at 1) (length x.places)) _ _ (λ known.
@@ -199,10 +201,10 @@ module _ (x : Setting) (bs : List ℕ) (bytes : Bytes bs) where
     where
       checked : at 1 ≤ 2 → fitting sizes (ltb 0 (at 1)) (at 2) ≡ true → fitting sizes (ltb 1 (at 1)) (at 3) ≡ true → 4 < length bs → at 4 < length sizes
           → (o : Option ℕ) → first_bad (size_of sizes (at 4)) (take (combinations sizes (arguments_of (at 1) (at 2) (at 3))) (drop 5 bs)) ≡ o
-          → Goal code.Operation (with_table (unless_bad o (drop 5 bs) x.ends (counts_at (drop 5 bs) x.ends (combinations sizes (arguments_of (at 1) (at 2) (at 3))))) (operation (at 1) (at 2) (at 3) (at 4)))
+          → Goal code.Operation (with_table (unless_bad o (drop 5 bs) x.ends (counts_at (drop 5 bs) x.ends (combinations sizes (arguments_of (at 1) (at 2) (at 3))))) (operation (arguments_of (at 1) (at 2) (at 3)) (at 4)))
       checked few f g long known None e =
           let k = combinations sizes (arguments_of (at 1) (at 2) (at 3)) in
-          tabled 5 k (operation (at 1) (at 2) (at 3) (at 4)) (omega arith) long refl (λ h. heard_operation (at 1) (at 2) (at 3) (at 4) (take k (drop 5 bs)) (record {
+          tabled 5 k (operation (arguments_of (at 1) (at 2) (at 3)) (at 4)) (omega arith) long refl (λ h. heard_operation (arguments_of (at 1) (at 2) (at 3)) (at 4) (take k (drop 5 bs)) (record {
             arguments = arguments_fit sizes (at 1) (at 2) (at 3) few f g;
             result = known;
             whole = h;
@@ -229,7 +231,7 @@ module _ (x : Setting) (bs : List ℕ) (bytes : Bytes bs) where
   taken code.Transition =
       when _ (ltb 1 (length bs)) _ _ (λ l1. when _ (leb (at 1) 4) _ _ (λ few. when _ (ltb 2 (length bs)) _ _ (λ l2. when _ (fitting sizes (ltb 0 (at 1)) (at 2)) _ _ (λ a.
       when _ (ltb 3 (length bs)) _ _ (λ l3. when _ (fitting sizes (ltb 1 (at 1)) (at 3)) _ _ (λ b. when _ (ltb 4 (length bs)) _ _ (λ l4. when _ (fitting sizes (ltb 2 (at 1)) (at 4)) _ _ (λ c.
-      when _ (ltb 5 (length bs)) _ _ (λ l5. when _ (fitting sizes (ltb 3 (at 1)) (at 5)) _ _ (λ d. when _ (leb (mode_count (variable_sizes sizes (at 1) (at 2 ∷ at 3 ∷ at 4 ∷ at 5 ∷ []))) 65536) _ _ (λ modes.
+      when _ (ltb 5 (length bs)) _ _ (λ l5. when _ (fitting sizes (ltb 3 (at 1)) (at 5)) _ _ (λ d. when _ (leb (mode_count (variable_sizes sizes (at 1) (at 2 ∷ at 3 ∷ at 4 ∷ at 5 ∷ []))) most_modes) _ _ (λ modes.
       let long : 6 ≤ length bs = ltb-true _ _ l5 in
       plain 6 (transition (take (at 1) (drop 2 bs))) (omega arith) long refl
       (heard_transition (take (at 1) (drop 2 bs)) (subst (λ (l : List ℕ). Varied sizes (take (at 1) l)) (sym (four bs long)) (first_fit sizes (at 2) (at 3) (at 4) (at 5) (drop 6 bs) (at 1) (leb-true _ _ few) a b c d (leb-true _ _ modes)))))))))))))))
@@ -249,7 +251,7 @@ module _ (x : Setting) (bs : List ℕ) (bytes : Bytes bs) where
   taken code.Claim =
       let m = at 2 * 256 + at 3 in
       when _ (ltb 1 (length bs)) _ _ (λ l1. when _ (leb 1 (at 1) && leb (at 1) 6) _ _ (λ k. when _ (ltb 2 (length bs)) _ _ (λ l2. when _ (ltb 3 (length bs)) _ _ (λ l3. when _ (modulus_fits (at 1) m) _ _ (λ f.
-      plain 4 (claim (at 1) m) (omega arith) (ltb-true _ _ l3) refl (heard_claim (at 1) m))))))
+      plain 4 (claim (kind_of (at 1) m)) (omega arith) (ltb-true _ _ l3) refl (heard_claim (kind_of (at 1) m)))))))
   taken code.PlaceWeight =
       let c = signed (at 2) (at 3) (at 4) (at 5) in
       when _ (ltb 1 (length bs)) _ _ (λ l1. when _ (ltb (at 1) (length x.places)) _ _ (λ known. when _ (ltb 2 (length bs)) _ _ (λ l2. when _ (ltb 3 (length bs)) _ _ (λ l3. when _ (ltb 4 (length bs)) _ _ (λ l4. when _ (ltb 5 (length bs)) _ _ (λ l5.

@@ -3,16 +3,15 @@ use Rattle.std.proofs.Common.{◌≡◌, ℕ, zero, suc, ◌-◌, ◌*◌, ◌/�
 use Rattle.std.specs.List.{All}
 use Rattle.std.proofs.lemmas.List.Sums.{sum_by-le}
 use Rattle.std.proofs.lemmas.Bool.{cases_lt, cond_both, cond-true}
-use Rattle.format.specs.Format.{place_size, size_of, variable_size, variable_sizes}
+use Rattle.format.specs.Format.{depth, place_size, variable_size, variable_sizes}
 use Rattle.format.specs.declared.command.Direction.{Direction}
-use Rattle.term.specs.Meaning.{size}
-use Rattle.net.specs.Nets.{HasCell, Mode, arcs_of, depth, part, side, transition}
-use Rattle.net.specs.Sound.{Sound, SoundArc, SoundTransition}
-use Rattle.net.specs.Spans.{Arc}
-use Rattle.net.specs.System.{SystemNet, Transition, no_transition}
+use Rattle.term.specs.Meaning.{size, size_of}
+use Rattle.net.specs.Nets.{HasCell, Mode, arcs_of, part, side, transition}
+use Rattle.net.specs.WellFormed.{WellFormed, WellFormedArc, WellFormedTransition}
+use Rattle.net.specs.System.{Arc, SystemNet, Transition, no_transition}
 use Rattle.net.proofs.Anywhere.{anywhere}
 use Rattle.net.proofs.Below as below
-use Rattle.net.proofs.Bounds.{sound_side}
+use Rattle.net.proofs.Bounds.{well_formed_side}
 
 four_cases : (P : ℕ → Type 0) → P 0 → P 1 → P 2 → P 3 → (v : ℕ) → v < 4 → P v
 four_cases P a b c e zero h = a
@@ -25,9 +24,9 @@ four_cases P a b c e (suc (suc (suc (suc v)))) h = let z : ⊥ = omega arith in 
 sized : (sizes : List ℕ) (k : ℕ) (sorts : List ℕ) (v : ℕ) → v < 4 → get_or (variable_sizes sizes k sorts) v 0 ≡ variable_size sizes k v (get_or sorts v 0)
 sized sizes k sorts = four_cases (λ v. get_or (variable_sizes sizes k sorts) v 0 ≡ variable_size sizes k v (get_or sorts v 0)) refl refl refl refl
 
-module _ (n : SystemNet) (sound : Sound n) (m : List ℕ) (c : ℕ) (in-all : c < 1024) (lacks : HasCell n c → ⊥) where
+module _ (n : SystemNet) (well_formed : WellFormed n) (m : List ℕ) (c : ℕ) (in-all : c < 1024) (lacks : HasCell n c → ⊥) where
   small : (k : ℕ) → size n.sig k ≤ 64
-  small = anywhere (λ j. j ≤ 64) n.sig.sizes 0 sound.sizes (omega arith)
+  small = anywhere (λ j. j ≤ 64) n.sig.sizes 0 well_formed.sizes (omega arith)
 
   -- what is no cell is outside the sort of every place
   outside_place : (p : ℕ) → p < length n.places → 64 * p ≤ c → size n.sig (get_or n.places p 0) ≤ c - 64 * p
@@ -46,8 +45,8 @@ module _ (n : SystemNet) (sound : Sound n) (m : List ℕ) (c : ℕ) (in-all : c 
     abbrev h : Transition
     h = transition n t
 
-    fits : SoundTransition n.sig n.places h
-    fits = sound.transitions t no_transition there
+    fits : WellFormedTransition n.sig n.places h
+    fits = well_formed.transitions t no_transition there
 
     in_mode : (v : ℕ) → v < length h.sorts → get_or m v 0 < size n.sig (get_or h.sorts v 0)
     in_mode v used =
@@ -58,13 +57,13 @@ module _ (n : SystemNet) (sound : Sound n) (m : List ℕ) (c : ℕ) (in-all : c 
         = ap (λ ns. get_or ns v 0) fits.sizes ∙ sized n.sig.sizes (length h.sorts) h.sorts v low ∙ cond-true (ltb v (length h.sorts)) (size_of n.sig.sizes (get_or h.sorts v 0)) 1 (lt-ltb _ _ used) in
         rw is at kept
 
-    no_token : (a : Arc) → SoundArc n.sig n.places h.sorts a → part n m c a ≡ 0
+    no_token : (a : Arc) → WellFormedArc n.sig n.places h.sorts a → part n m c a ≡ 0
     no_token a f =
         cond_both (leb (64 * a.place) c) _ _ (λ k. k ≡ 0)
-        (λ low. below.outside n.sig sound.operations (omega (arith, sound.truths)) h.sorts m in_mode depth (get_or n.places a.place 0) (c - 64 * a.place) a.bag (outside_place a.place f.place (leb-true _ _ low)) f.bag.over) (λ _. refl)
+        (λ low. below.outside n.sig well_formed.operations (omega (arith, well_formed.truths)) h.sorts m in_mode depth (get_or n.places a.place 0) (c - 64 * a.place) a.bag (outside_place a.place f.place (leb-true _ _ low)) f.bag.over) (λ _. refl)
 
-    no_tokens : (xs : List Arc) → All (SoundArc n.sig n.places h.sorts) xs → side n m xs c ≡ 0
+    no_tokens : (xs : List Arc) → All (WellFormedArc n.sig n.places h.sorts) xs → side n m xs c ≡ 0
     no_tokens xs f = let none = sum_by-le (part n m c) 0 xs (λ i d l. let e = no_token _ (f i d l) in omega arith) in omega arith
 
     pub outside : (d : Direction) → side n m (arcs_of n t d) c ≡ 0
-    outside d = no_tokens (arcs_of n t d) (sound_side n.sig n.places h d fits)
+    outside d = no_tokens (arcs_of n t d) (well_formed_side n.sig n.places h d fits)

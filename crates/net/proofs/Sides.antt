@@ -3,14 +3,13 @@ use Rattle.std.proofs.Common.{◌≡◌, ℕ, ◌+◌, ◌<◌, List, length, ge
 use Rattle.std.proofs.lemmas.List.{map_more}
 use Rattle.std.proofs.lemmas.List.Sums.{sum_by_push}
 use Rattle.net.specs.declared.parts.Arc as parts
-use Rattle.term.specs.Worth.{most}
 use Rattle.net.specs.Nets.{bag_of, part, side}
-use Rattle.net.specs.Spans.{Arc, arc_told}
-use Rattle.net.specs.System.{SystemNet}
+use Rattle.net.specs.System.{Arc, SystemNet, arc_told}
+use Rattle.term.specs.Meaning.{most_tokens}
 
 -- at most how many tokens an arc adds, and arcs together
 abbrev pub part_load : SystemNet → Arc → ℕ
-part_load n a = most (bag_of n a)
+part_load n a = most_tokens (bag_of n a)
 
 abbrev pub load : SystemNet → List Arc → ℕ
 load n xs = sum_by (part_load n) xs

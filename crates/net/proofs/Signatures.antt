@@ -4,21 +4,21 @@ use Rattle.std.specs.List.{All}
 use Rattle.std.proofs.lemmas.List.{get_or_append_left, get_or_past, length_push}
 use Rattle.std.proofs.lemmas.List.Elements.{All-push}
 use Rattle.std.proofs.lemmas.Bool.{cases_lt}
-use Rattle.term.specs.Meaning.{BagOperation, Operation, Sig}
-use Rattle.format.specs.Format.{size_of}
-use Rattle.net.specs.Sound.{SoundBagOperation, SoundOperation}
+use Rattle.term.specs.Meaning.{BagOperation, Operation, Sig, size_of}
+use Rattle.net.specs.WellFormed.{WellFormedBagOperation, WellFormedOperation}
 use Rattle.net.proofs.Anywhere.{anywhere}
+use Rattle.net.specs.System.{most_bag_operations, most_operations, most_sorts}
 
--- at most 8 sorts, 32 operations and 8 bag operations; sort 0 has two elements, and every sort 1 to 64
+-- within the limits of sorts and operations; sort 0 has two elements, and every sort 1 to 64
 pub record Signed (s : Sig) : Type 0 where
-  pub sorts : length s.sizes ≤ 8
+  pub sorts : length s.sizes ≤ most_sorts
   pub truths : size_of s.sizes 0 ≡ 2
   pub inhabited : All (λ k. 1 ≤ k) s.sizes
   pub sizes : All (λ k. k ≤ 64) s.sizes
-  pub few_operations : length s.operations ≤ 32
-  pub operations : All (SoundOperation s.sizes) s.operations
-  pub few_bags : length s.bags ≤ 8
-  pub bags : All (SoundBagOperation s.sizes) s.bags
+  pub few_operations : length s.operations ≤ most_operations
+  pub operations : All (WellFormedOperation s.sizes) s.operations
+  pub few_bags : length s.bags ≤ most_bag_operations
+  pub bags : All (WellFormedBagOperation s.sizes) s.bags
 
 module _ (s : Sig) (f : Signed s) where
   some_sort : 0 < length s.sizes
@@ -29,7 +29,7 @@ module _ (s : Sig) (f : Signed s) where
   small = anywhere (λ j. j ≤ 64) s.sizes 0 f.sizes (omega arith)
 
   -- a sort, before there are operations
-  pub with_sort : (k : ℕ) → 1 ≤ k → k ≤ 64 → length s.sizes < 8 → length s.operations ≡ 0 → length s.bags ≡ 0 → Signed (record s { sizes = s.sizes ++ k ∷ [] })
+  pub with_sort : (k : ℕ) → 1 ≤ k → k ≤ 64 → length s.sizes < most_sorts → length s.operations ≡ 0 → length s.bags ≡ 0 → Signed (record s { sizes = s.sizes ++ k ∷ [] })
   with_sort k low high room none no_bags = record {
     sorts = omega (arith, length_push s.sizes k);
     truths = get_or_append_left s.sizes (k ∷ []) 0 0 some_sort ∙ f.truths;
@@ -41,19 +41,19 @@ module _ (s : Sig) (f : Signed s) where
     bags = λ i d l. let z : ⊥ = omega arith in absurd z;
   }
 
-  pub with_operation : (o : Operation) → SoundOperation s.sizes o → length s.operations < 32 → Signed (record s { operations = s.operations ++ o ∷ [] })
+  pub with_operation : (o : Operation) → WellFormedOperation s.sizes o → length s.operations < most_operations → Signed (record s { operations = s.operations ++ o ∷ [] })
   with_operation o h room = record {
     sorts = f.sorts;
     truths = f.truths;
     inhabited = f.inhabited;
     sizes = f.sizes;
     few_operations = omega (arith, length_push s.operations o);
-    operations = All-push (SoundOperation s.sizes) s.operations o f.operations h;
+    operations = All-push (WellFormedOperation s.sizes) s.operations o f.operations h;
     few_bags = f.few_bags;
     bags = f.bags;
   }
 
-  pub with_bag_operation : (o : BagOperation) → SoundBagOperation s.sizes o → length s.bags < 8 → Signed (record s { bags = s.bags ++ o ∷ [] })
+  pub with_bag_operation : (o : BagOperation) → WellFormedBagOperation s.sizes o → length s.bags < most_bag_operations → Signed (record s { bags = s.bags ++ o ∷ [] })
   with_bag_operation o h room = record {
     sorts = f.sorts;
     truths = f.truths;
@@ -62,5 +62,5 @@ module _ (s : Sig) (f : Signed s) where
     few_operations = f.few_operations;
     operations = f.operations;
     few_bags = omega (arith, length_push s.bags o);
-    bags = All-push (SoundBagOperation s.sizes) s.bags o f.bags h;
+    bags = All-push (WellFormedBagOperation s.sizes) s.bags o f.bags h;
   }

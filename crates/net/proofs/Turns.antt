@@ -8,20 +8,20 @@ use Rattle.format.specs.declared.section.Section.TheVariants as section
 use Rattle.net.specs.declared.reader.ReadError.{ReadError}
 use Rattle.net.specs.declared.reader.ReadError.TheVariants.{File, Memory}
 use Rattle.net.specs.Reading.{Fills, Step, Steps, Told, after, commands, empty, last, next, step, stop, told}
-use Rattle.net.specs.System.{SystemNet}
+use Rattle.net.specs.System.{SystemNet, longest_file}
 
 -- from here on, with enough turns, the rest of the file tells v
 abbrev pub TellsOn : ℕ → Section → SystemNet → List ℕ → Told → Type 0
 TellsOn ends s n bs v = (k : ℕ) × (length bs < k) × (commands k ends s n bs ≡ v)
 
 -- before the first command
-pub begins : (file : List ℕ) (n : SystemNet) → length file ≤ 65536 → n ≡ empty → TellsOn (length file) section.Sorts n file (told file)
+pub begins : (file : List ℕ) (n : SystemNet) → length file ≤ longest_file → n ≡ empty → TellsOn (length file) section.Sorts n file (told file)
 begins file n h e =
     let k = length file + 1 in (
       k,
       omega arith,
       ap (λ (z : SystemNet). commands k (length file) section.Sorts z file) e
-          ∙ sym (ap (λ (b : Bool). cond b (commands k (length file) section.Sorts empty file) (Err (record { fault = fail.TooLong; place = 65536; stage = stage.File }))) (le-leb (length file) 65536 h)),
+          ∙ sym (ap (λ (b : Bool). cond b (commands k (length file) section.Sorts empty file) (Err (record { fault = fail.TooLong; place = longest_file; stage = stage.File }))) (le-leb (length file) longest_file h)),
     )
 
 module _ (ends : ℕ) (s : Section) (n : SystemNet) (bs : List ℕ) (v : Told) where

@@ -1,8 +1,7 @@
-pub mod Spans
 pub mod System
 pub mod Nets
 pub mod Runs
 pub mod Reading
 pub mod Of
 pub mod Written
-pub mod Sound
+pub mod WellFormed

@@ -1,20 +1,15 @@
 -- Nets and what their transitions take and put.
-use Rattle.std.specs.Prelude.{◌≡◌, ℕ, ◌+◌, ◌-◌, ◌/◌, ◌%◌, ◌^◌, ◌<◌, min, Bool, true, cond, List, [], ◌∷◌, length, ℤ, ◌==◌, slice_index, slice_index_or, sum_by}
+use Rattle.std.specs.Prelude.{◌≡◌, ℕ, ◌+◌, ◌-◌, ◌*◌, ◌/◌, ◌%◌, ◌^◌, ◌<◌, min, Bool, true, cond, List, [], ◌∷◌, length, ℤ, ◌==◌, slice_index, slice_index_or, sum_by}
 use Rattle.std.specs.Option.{option_map_or}
 use Rattle.domain.specs.declared.kind.Kind.{Kind}
 use Rattle.domain.specs.declared.kind.Kind.TheVariants.{Equal}
 use Rattle.format.specs.declared.command.Direction.{Direction}
-use Rattle.format.specs.Format.{place_size}
+use Rattle.format.specs.Format.{depth, mode_count, place_size}
 use Rattle.term.specs.Meaning.{Bag, count, value}
 use Rattle.term.specs.Prefix.{bag_at, term_at}
 use Rattle.term.specs.Worth.{Marking, on_place}
 use Rattle.net.specs.declared.parts.Claim.{Claim}
-use Rattle.net.specs.Spans.{Arc, towards}
-use Rattle.net.specs.System.{SystemNet, Transition, no_transition}
-
--- the deepest that a term or a bag may be
-abbrev pub depth : ℕ
-depth = 16
+use Rattle.net.specs.System.{Arc, SystemNet, Transition, cells, longest_file, no_transition, towards}
 
 abbrev pub transition : SystemNet → ℕ → Transition
 transition n t = slice_index_or n.transitions t no_transition
@@ -56,8 +51,16 @@ mode_of ns i =
     digit (i / slice_index ns 3 / slice_index ns 2 / slice_index ns 1) (slice_index ns 0) ∷ digit (i / slice_index ns 3 / slice_index ns 2) (slice_index ns 1)
     ∷ digit (i / slice_index ns 3) (slice_index ns 2) ∷ digit i (slice_index ns 3) ∷ []
 
+-- how many modes a transition has, and the mode of a number, the first variable slowest
+abbrev pub modes_of : SystemNet → ℕ → ℕ
+modes_of n t = mode_count (transition n t).sizes
+
+abbrev pub mode : SystemNet → ℕ → ℕ → List ℕ
+mode n t i = mode_of (transition n t).sizes i
+
 -- a mode gives each of the four variables an element of its sort, 0 where there is no variable
 pub record Mode (ns m : List ℕ) : Type 0 where
+  pub four : length m ≡ 4
   pub first : slice_index m 0 < slice_index ns 0
   pub second : slice_index m 1 < slice_index ns 1
   pub third : slice_index m 2 < slice_index ns 2
@@ -67,9 +70,9 @@ pub record Mode (ns m : List ℕ) : Type 0 where
 abbrev pub Tallied : List ℕ → List ℕ → Marking → Type 0
 Tallied before after m = (c : ℕ) → c < length before → slice_index after c ≡ min (slice_index before c + m c) (2 ^ 32 - 1)
 
--- at most how many tokens the arcs of a transition that go one way have in a cell: 255 for each 4 of 65,536 bytes
+-- at most how many tokens the arcs of a transition that go one way have in a cell: 255 for each 4 bytes of a file
 abbrev pub largest_side : ℕ
-largest_side = 4177920
+largest_side = 255 * (longest_file / 4)
 
 -- a marking is added to counts, exactly, where there is room for the largest side
 abbrev pub ExactlyTallied : List ℕ → List ℕ → Marking → Type 0
@@ -77,7 +80,7 @@ ExactlyTallied before after m = (c : ℕ) → c < length before → slice_index 
 
 -- the cell stands for a place of the net and an element of that place's sort
 pub record HasCell (n : SystemNet) (cell : ℕ) : Type 0 where
-  pub within : cell < 1024
+  pub within : cell < cells
   pub element : cell % 64 < place_size n.sig.sizes n.places (cell / 64)
 
 abbrev pub no_claim : Claim
@@ -86,7 +89,7 @@ no_claim = record { kind = Equal; codes = [] }
 abbrev pub claim_of : SystemNet → ℕ → Claim
 claim_of n k = slice_index_or n.claims k no_claim
 
--- the codes of a claim, one for each of 1,024 cells
+-- the codes of a claim, one for each cell
 abbrev pub codes_of : SystemNet → ℕ → List ℤ
 codes_of n k = (claim_of n k).codes
 

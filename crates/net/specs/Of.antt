@@ -2,5 +2,6 @@
 use Rattle.net.specs.System.{SystemNet, told_by}
 use Rattle.net.specs.declared.net.Net.{Net}
 
+-- the net as a plain value
 abbrev pub system : Net → SystemNet
 system n = told_by n.parts

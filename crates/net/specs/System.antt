@@ -1,10 +1,48 @@
 -- An algebraic system net as a plain value, and the one that parts in memory tell.
-use Rattle.std.specs.Prelude.{ℕ, List, [], Option, None, map, option_map, vec_items}
+use Rattle.std.specs.Prelude.{ℕ, ◌+◌, List, [], length, Option, None, map, option_map, sum_by, vec_items}
 use Rattle.term.specs.Meaning.{Sig, bag_said, operation_said}
-use Rattle.net.specs.Spans.{Arc, arc_told}
+use Rattle.format.specs.declared.command.Direction.{Direction}
+use Rattle.format.specs.declared.command.Direction.TheVariants.{In, Out}
+use Rattle.net.specs.declared.parts.Arc as arcs
 use Rattle.net.specs.declared.parts.Claim.{Claim}
 use Rattle.net.specs.declared.parts.Parts.{Parts}
 use Rattle.net.specs.declared.parts.Transition as parts
+
+-- the number of cells: 16 places of at most 64 elements
+abbrev pub cells : ℕ
+cells = 1024
+
+-- the number of bytes of the longest file
+abbrev pub longest_file : ℕ
+longest_file = 65536
+
+-- at most so many of each stand in a file; sort 0, which stands in none, is one of the sorts
+abbrev pub most_sorts : ℕ
+most_sorts = 8
+
+abbrev pub most_operations : ℕ
+most_operations = 32
+
+abbrev pub most_bag_operations : ℕ
+most_bag_operations = 8
+
+abbrev pub most_places : ℕ
+most_places = 16
+
+abbrev pub most_transitions : ℕ
+most_transitions = 32
+
+-- the arcs of all transitions together
+abbrev pub most_arcs : ℕ
+most_arcs = 128
+
+abbrev pub most_claims : ℕ
+most_claims = 16
+
+-- an arc: its place, and the bytes of its bag
+pub record Arc : Type 0 where
+  pub place : ℕ
+  pub bag : List ℕ
 
 -- a transition: the sorts of its variables, how many elements each of four has (1 for an unused one), the bytes of its
 -- guard, and the arcs by which it takes and puts
@@ -26,6 +64,23 @@ pub record SystemNet : Type 0 where
   pub initial : List ℕ
   pub transitions : List Transition
   pub claims : List Claim
+
+-- what goes one way, of what a transition takes and what it puts
+abbrev pub towards : {X : Type 0} → Direction → List X → List X → List X
+towards In takes puts = takes
+towards Out takes puts = puts
+
+-- how many arcs a transition has, both directions together
+abbrev pub arcs_in : Transition → ℕ
+arcs_in t = length t.takes + length t.puts
+
+-- how many arcs there are
+abbrev pub arc_count : SystemNet → ℕ
+arc_count n = sum_by arcs_in n.transitions
+
+-- the arc that one in memory holds
+abbrev pub arc_told : arcs.Arc → Arc
+arc_told a = record { place = a.place; bag = vec_items a.bag }
 
 -- the transition that one in memory holds
 abbrev pub transition_told : parts.Transition → Transition

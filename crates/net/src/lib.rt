@@ -1,10 +1,10 @@
 // Nets: the reader, and what judging and firing ask of a net.
 #![tactic(auto)]
 
-pub mod firing;
-pub mod net;
-pub mod parts;
-pub mod reader;
+mod firing;
+mod net;
+mod parts;
+mod reader;
 
 pub use firing::Firing;
 pub use net::{CELLS, Net};

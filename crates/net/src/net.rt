@@ -1,17 +1,17 @@
-ghost use Rattle.net.specs.Sound.{Sound};
+ghost use Rattle.net.specs.WellFormed.{WellFormed};
 ghost use Rattle.net.specs.System.{told_by};
 
 use crate::parts::Parts;
 
-pub mod ask;
+mod ask;
 
 // How many cells there are: 16 places of at most 64 elements.
 pub const CELLS: usize = 1024;
 
-// A net with its initial marking and its claims. `Net::new` and `read` alone write its parts: so every net is sound, its
+// A net with its initial marking and its claims. `Net::new` and `read` alone write its parts: so every net is well-formed, its
 // terms of their sorts and its numbers in their ranges.
 #[derive(Drop)]
 pub struct Net {
     pub(crate) parts: Parts,
-    ghost sound: { ∥ Sound (told_by parts) ∥₁ },
+    ghost well_formed: { ∥ WellFormed (told_by parts) ∥₁ },
 }

@@ -4,8 +4,8 @@ use crate::net::CELLS;
 use domain::Kind;
 use term::{BagOperation, Operation};
 
-pub mod ask;
-pub mod build;
+mod ask;
+mod build;
 
 // An arc: its place and its bag.
 #[derive(Drop)]

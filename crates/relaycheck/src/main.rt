@@ -1,85 +1,30 @@
-// Reads net.bin and trace.bin, judges every claim, replays the trace, and prints the report.
+// Reads net.bin and trace.bin, and prints the report on them: every claim judged, and the trace replayed.
 #![tactic(auto)]
 
-mod report;
+use report::report;
+use std::fs::File;
+use std::io::{self, ErrorKind, Read};
 
-use anyhow::anyhow;
-use bench::Firing;
-use judge::{Judge, Outcome};
-use lent::list::LentList;
-use net::{CELLS, Net, ReadError, read};
-use report::{ClaimLine, FaultLine, ReplayLine};
-use std::alloc::{AllocError, Global};
-use std::fs;
-use trace::replay;
+// One byte more than the longest file: enough to see that a file is too long.
+const ENOUGH: u64 = 65537;
 
-// How many firings the trail can hold.
-const TRAIL: usize = 8192;
-
-// What a file holds; one that cannot be read counts as empty.
-fn contents(rt: &HostRuntime, path: &str) -> Vec<u8> {
-    fs::read(rt, path).unwrap_or_else(|_| Vec::new(rt.alloc()))
-}
-
-// The verdicts of all claims, one line each.
-fn add_claims(net: &Net, text: &mut String) -> Result<(), AllocError> {
-    let mut codes = [0i32; CELLS];
-    let mut before = [0u32; CELLS];
-    let mut after = [0u32; CELLS];
-    let mut judge = Judge {
-        net,
-        codes: &mut codes,
-        before: &mut before,
-        after: &mut after,
+// What a file holds, as far as it matters. One that cannot be opened or read counts as empty, unless memory is wanting.
+fn contents(rt: &HostRuntime, path: &str) -> io::Result<Vec<u8>> {
+    let mut bytes = Vec::new(rt.alloc());
+    let Ok(file) = File::open(rt, path) else {
+        return Ok(bytes);
     };
-    let mut outcomes: [Outcome; 16] = [Ok(0); 16];
-    let mut sheet = LentList::new(&mut outcomes);
-    let _ = judge.survey(&mut sheet);
-    for (claim, outcome) in sheet.as_slice().iter().enumerate() {
-        let outcome = *outcome;
-        writeln!(text, "{}", ClaimLine { claim, outcome })?;
+    match file.take(ENOUGH).read_to_end(&mut bytes) {
+        Ok(_) => Ok(bytes),
+        Err(e) if e.kind() == ErrorKind::OutOfMemory => Err(e),
+        Err(_) => Ok(Vec::new(rt.alloc())),
     }
-    Ok(())
-}
-
-// What the replay did, and the cells that hold tokens after it.
-fn add_trace(heap: Global, net: &Net, bytes: &[u8], text: &mut String) -> anyhow::Result<()> {
-    let mut counts = [0u16; CELLS];
-    let mut memory = vec![in heap; Firing {
-        transition: 0,
-        mode: [0; 4]
-    }; TRAIL]?;
-    let mut trail = LentList::new(memory.as_mut_slice());
-    if let Ok(done) = replay(net, &mut counts, &mut trail, bytes) {
-        writeln!(text, "{}", ReplayLine(done))?;
-    }
-    for (cell, count) in counts.iter().enumerate() {
-        if *count > 0 {
-            writeln!(text, "cell {cell} {count}")?;
-        }
-    }
-    Ok(())
-}
-
-fn run(rt: &HostRuntime) -> anyhow::Result<String> {
-    let heap = rt.alloc();
-    let file = contents(rt, "net.bin");
-    let bytes = contents(rt, "trace.bin");
-    let mut net = Net::new(heap)?;
-    let mut text = String::new(heap);
-    match read(&mut net, file.as_slice()) {
-        Ok(()) => {
-            add_claims(&net, &mut text)?;
-            add_trace(heap, &net, bytes.as_slice(), &mut text)?;
-        }
-        Err(ReadError::File(fault)) => writeln!(text, "{}", FaultLine(fault))?,
-        Err(ReadError::Memory) => return Err(anyhow!("out of memory")),
-    }
-    Ok(text)
 }
 
 fn main(rt: HostRuntime) -> anyhow::Result<()> {
-    let text = run(&rt)?;
+    let file = contents(&rt, "net.bin")?;
+    let trace = contents(&rt, "trace.bin")?;
+    let text = report(rt.alloc(), file.as_slice(), trace.as_slice())?;
     rt.print(text.as_str())?;
     Ok(())
 }

@@ -3,7 +3,7 @@ use Rattle.std.proofs.Common.{◌≡◌, ℕ, zero, suc, ◌-◌, ◌<◌, ◌�
 use Rattle.std.proofs.lemmas.Bool.Decides.{nat_tests}
 use Rattle.term.specs.declared.check.Checker.{Checker}
 use Rattle.term.specs.declared.fault.Fault.TheVariants as fault
-use Rattle.term.specs.Check.{Checked, bad, bag_front, check_bag, check_term, done, flexible_at, in_term, place, then}
+use Rattle.term.specs.Check.{Checked, bad, bag_front, check_bag, check_term, done, flexible_at, in_term, spot, then}
 use Rattle.term.specs.Meaning.{Sig, of, bag_operation, bag_sorted, sorted}
 use Rattle.term.specs.Prefix.{bag_at, term_at}
 use Rattle.term.specs.Shape.{Flexible, Passed, PassedBag}
@@ -14,7 +14,7 @@ module _ (s : Sig) (t : ℕ → List ℕ → Checked) (b : List ℕ → Checked)
   front_ends : length bs ≡ 0 → bag_front s t b deep want bs ends ≡ bad (in_term fault.Ends ends)
   front_ends h = let e : ltb 0 (length bs) ≡ false = grind (arith, nat_tests) in rw e
 
-  front_unknown : 0 < length bs → (0x30 ≤ get_or bs 0 0 → get_or bs 0 0 ≤ 0x33 → ⊥) → bag_front s t b deep want bs ends ≡ bad (in_term fault.NoCommand (place bs ends 0))
+  front_unknown : 0 < length bs → (0x30 ≤ get_or bs 0 0 → get_or bs 0 0 ≤ 0x33 → ⊥) → bag_front s t b deep want bs ends ≡ bad (in_term fault.NoCommand (spot bs ends 0))
   front_unknown h n =
       let f : (leb 0x30 (get_or bs 0 0) && leb (get_or bs 0 0) 0x33) ≡ false = grind (arith, nat_tests) in
       rw (lt-ltb 0 (length bs) h, f)
@@ -42,12 +42,12 @@ module _ (k : Checker) (want : ℕ) (bs : List ℕ) where
   ends_here zero h = sym (front_ends s (λ t r. done r) (λ r. done r) true want bs ends h)
   ends_here (suc d) h = sym (front_ends s (check_term s vars ends d) (check d) false want bs ends h)
 
-  pub unknown : (d : ℕ) → 0 < length bs → (0x30 ≤ get_or bs 0 0 → get_or bs 0 0 ≤ 0x33 → ⊥) → bad (in_term fault.NoCommand (place bs ends 0)) ≡ check d bs
+  pub unknown : (d : ℕ) → 0 < length bs → (0x30 ≤ get_or bs 0 0 → get_or bs 0 0 ≤ 0x33 → ⊥) → bad (in_term fault.NoCommand (spot bs ends 0)) ≡ check d bs
   unfolding check_bag
   unknown zero h n = sym (front_unknown s (λ t r. done r) (λ r. done r) true want bs ends h n)
   unknown (suc d) h n = sym (front_unknown s (check_term s vars ends d) (check d) false want bs ends h n)
 
-  pub too_deep : (d : ℕ) → d ≡ 0 → 0 < length bs → 0x30 ≤ get_or bs 0 0 → get_or bs 0 0 ≤ 0x33 → bad (in_term fault.Deep (place bs ends 0)) ≡ check d bs
+  pub too_deep : (d : ℕ) → d ≡ 0 → 0 < length bs → 0x30 ≤ get_or bs 0 0 → get_or bs 0 0 ≤ 0x33 → bad (in_term fault.Deep (spot bs ends 0)) ≡ check d bs
   unfolding check_bag
   too_deep zero e h l u = let f : (leb 0x30 (get_or bs 0 0) && leb (get_or bs 0 0) 0x33) ≡ true = grind (arith, nat_tests) in sym (rw (lt-ltb 0 (length bs) h, f))
   too_deep (suc d) e h l u = let z : ⊥ = omega arith in absurd z

@@ -2,11 +2,10 @@
 use Rattle.std.proofs.Common.{◌≡◌, ℕ, zero, suc, ◌+◌, ◌*◌, ◌<◌, ◌≤◌, true, List, length, get_or, drop, arith, length-drop}
 use Rattle.std.proofs.lemmas.Bool.{cond_both}
 use Rattle.std.proofs.lemmas.Bool.Decides.{nat_tests}
-use Rattle.term.specs.Meaning.{Sig, operation}
+use Rattle.term.specs.Meaning.{Sig, largest_row, most_tokens, operation}
 use Rattle.term.specs.declared.signature.Arguments.{Arguments}
 use Rattle.term.specs.declared.signature.Arguments.TheVariants as arguments
 use Rattle.term.specs.Prefix.{Read, ReadBag, applied, bag_at, begins, term_at}
-use Rattle.term.specs.Worth.{most}
 
 some : (k n : ℕ) (bs : List ℕ) → begins k n bs ≡ true → 0 < length bs
 some k n bs e = grind (arith, nat_tests, e)
@@ -39,11 +38,11 @@ module _ (s : Sig) where
       cond_both (begins 0x25 0 bs) _ _ P (λ e. twice (drop 1 bs) (omega arith)) (λ e6. omega arith))))))
 
   -- at most 65,025 tokens for each byte
-  pub few_tokens : (d : ℕ) (bs : List ℕ) → most (bag_at s d bs).0 + 65025 * length (bag_at s d bs).1 ≤ 65025 * length bs
+  pub few_tokens : (d : ℕ) (bs : List ℕ) → most_tokens (bag_at s d bs).0 + largest_row * length (bag_at s d bs).1 ≤ largest_row * length bs
   unfolding bag_at
   few_tokens zero bs = omega arith
   few_tokens (suc d) bs =
-      let P : ReadBag → Type 0 = λ r. most r.0 + 65025 * length r.1 ≤ 65025 * length bs in
+      let P : ReadBag → Type 0 = λ r. most_tokens r.0 + largest_row * length r.1 ≤ largest_row * length bs in
       let p = term_at s d in
       let q = bag_at s d in
       let l1 = length-drop 1 bs in

@@ -2,12 +2,13 @@
 use Rattle.std.proofs.Common.{◌≡◌, ℕ, zero, suc, ◌+◌, ◌-◌, ◌*◌, ◌<◌, ◌≤◌, Bool, true, false, leb, List, length, get_or, drop, ℤ, pos, refl, sym, ap, ◌∙◌, subst, arith, length-drop}
 use Rattle.std.proofs.lemmas.Bool.Decides.{nat_tests}
 use Rattle.std.proofs.lemmas.List.{get_or-drop, get_or_past}
-use Rattle.domain.specs.Meaning.{Added, Laws, Meaning, copies, places, row_of, row_to}
+use Rattle.domain.specs.Meaning.{Added, Laws, Meaning, copies, row_length, row_of, row_to}
 use Rattle.domain.proofs.Copies.{copies_one}
 use Rattle.domain.proofs.Rows.{row_holds, row_size}
 use Rattle.term.specs.Adding.{neutral_right, value_none}
 use Rattle.term.proofs.Sums.{place_past}
 use Rattle.term.specs.Worth.{Marking, Weighs, on_place, value_of, value_to, weight_of}
+use Rattle.term.specs.Meaning.{largest_row}
 
 module _ {V : Type 0} {d : Meaning V} (l : Laws d) (codes : List ℤ) (p : ℕ) (row : List ℕ) where
   abbrev there : List ℤ
@@ -48,14 +49,14 @@ module _ {V : Type 0} {d : Meaning V} (l : Laws d) (codes : List ℤ) (p : ℕ) 
       by true q =
           let short : length row ≤ length there = grind (arith, nat_tests, q) in
           ap (row_to d row there) {y = length row + (length there - length row)} (omega (arith, short)) ∙ past (length there - length row)
-          ∙ ap (row_to d row there) {y = places row there} (omega (arith, short, few))
-      by false q = let long : length there < length row = grind (arith, nat_tests, q) in ap (row_to d row there) {y = places row there} (omega (arith, long, few))
+          ∙ ap (row_to d row there) {y = row_length row there} (omega (arith, short, few))
+      by false q = let long : length there < length row = grind (arith, nat_tests, q) in ap (row_to d row there) {y = row_length row there} (omega (arith, long, few))
 
-  pub weighs_row : (v r : V) → 64 * p ≤ length codes → length row < 256 → ((i : ℕ) → get_or row i 0 < 256) → Added d v 1 (row_of d row there) r → Weighs d codes v counts 65025 r
+  pub weighs_row : (v r : V) → 64 * p ≤ length codes → length row < 256 → ((i : ℕ) → get_or row i 0 < 256) → Added d v 1 (row_of d row there) r → Weighs d codes v counts largest_row r
   weighs_row v r inside few bytes add h s =
       let w = row_of d row there in
-      let hw : d.holds w = row_holds l row there (places row there) in
-      let light = row_size l row there bytes (places row there) in
+      let hw : d.holds w = row_holds l row there (row_length row there) in
+      let light = row_size l row there bytes (row_length row there) in
       let er : r ≡ d.plus v w = add.exact (omega arith) ∙ ap (d.plus v) (copies_one l w hw) in
       let sr : d.size r ≡ d.size (d.plus v w) = ap d.size er in
       let grown = l.size_plus v w h hw in

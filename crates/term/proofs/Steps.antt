@@ -7,7 +7,7 @@ use Rattle.term.specs.declared.fault.FileFault.{FileFault}
 use Rattle.term.specs.declared.signature.Arguments.{Arguments}
 use Rattle.term.specs.declared.signature.Arguments.TheVariants as arguments
 use Rattle.term.specs.Meaning.{of}
-use Rattle.term.specs.Check.{Front, front, none, Checked, bad, head_at, check_term, parts, then, in_term, place}
+use Rattle.term.specs.Check.{Front, front, none, Checked, bad, done, head_at, check_term, parts, then, in_term, spot}
 use Rattle.term.specs.Shape.{Passed}
 use Rattle.term.proofs.Shapes.{Shape, head_shape, passed_leaf, passed_one, passed_two}
 
@@ -30,11 +30,11 @@ module _ (k : Checker) where
   -- nothing is found past the depth
   deeper : (d want : ℕ) (bs : List ℕ) (a : Arguments) (r : List ℕ) → front a r ≡ front_at d want bs → 0 < d
   deeper zero want bs a r h =
-      absurd (never (ltb 0 (length bs)) (leb 32 (get_or bs 0 0) && leb (get_or bs 0 0) 37) a r (in_term fault.Deep (place bs k.ends 0)) (in_term fault.NoCommand (place bs k.ends 0)) (in_term fault.Ends k.ends) h)
+      absurd (never (ltb 0 (length bs)) (leb 32 (get_or bs 0 0) && leb (get_or bs 0 0) 37) a r (in_term fault.Deep (spot bs k.ends 0)) (in_term fault.NoCommand (spot bs k.ends 0)) (in_term fault.Ends k.ends) h)
   deeper (suc d) want bs a r h = omega arith
 
   pub no_front : (d want : ℕ) (bs : List ℕ) (e : FileFault) → none e ≡ front_at d want bs → bad e ≡ check d want bs
-  no_front zero want bs e h = ap (parts (λ t r. bad (in_term fault.Deep 0))) h
+  no_front zero want bs e h = ap (parts (λ t r. done r)) h
   no_front (suc d) want bs e h = shallow d want bs (none e) h
 
   -- the parts that a front asks for

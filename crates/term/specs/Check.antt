@@ -32,9 +32,9 @@ checked (Err e) = bad e
 abbrev pub in_term : Fault → ℕ → FileFault
 in_term f p = record { fault = f; place = p; stage = stage.Term }
 
--- where the byte k of what is left stands
-abbrev pub place : List ℕ → ℕ → ℕ → ℕ
-place bs ends k = ends - length bs + k
+-- where the byte k of what is left stands in the file
+abbrev pub spot : List ℕ → ℕ → ℕ → ℕ
+spot bs ends k = ends - length bs + k
 
 abbrev pub byte : List ℕ → ℕ → ℕ → (ℕ → Front) → Front
 byte bs ends i k = cond (nat_lt i (length bs)) (k (slice_index bs i)) (none (in_term fault.Ends ends))
@@ -44,32 +44,32 @@ test ok f p r = cond ok r (none (in_term f p))
 
 abbrev pub variable_at : List ℕ → ℕ → List ℕ → ℕ → Front
 variable_at vars want bs ends =
-    byte bs ends 1 (λ v. test (nat_lt v (length vars)) fault.Range (place bs ends 1)
-    (test (slice_index vars v == want) fault.Sort (place bs ends 1) (front arguments.None (drop 2 bs))))
+    byte bs ends 1 (λ v. test (nat_lt v (length vars)) fault.Range (spot bs ends 1)
+    (test (slice_index vars v == want) fault.Sort (spot bs ends 1) (front arguments.None (drop 2 bs))))
 
 abbrev pub constant_at : Sig → ℕ → List ℕ → ℕ → Front
 constant_at s want bs ends =
-    byte bs ends 1 (λ t. test (nat_lt t (length s.sizes)) fault.Range (place bs ends 1)
-    (test (t == want) fault.Sort (place bs ends 1)
-    (byte bs ends 2 (λ e. test (nat_lt e (size s t)) fault.Range (place bs ends 2) (front arguments.None (drop 3 bs))))))
+    byte bs ends 1 (λ t. test (nat_lt t (length s.sizes)) fault.Range (spot bs ends 1)
+    (test (t == want) fault.Sort (spot bs ends 1)
+    (byte bs ends 2 (λ e. test (nat_lt e (size s t)) fault.Range (spot bs ends 2) (front arguments.None (drop 3 bs))))))
 
 abbrev pub application_at : Sig → ℕ → List ℕ → ℕ → Front
 application_at s want bs ends =
-    byte bs ends 1 (λ o. test (nat_lt o (length s.operations)) fault.Range (place bs ends 1)
-    (test ((operation s o).result == want) fault.Sort (place bs ends 1) (front (operation s o).arguments (drop 2 bs))))
+    byte bs ends 1 (λ o. test (nat_lt o (length s.operations)) fault.Range (spot bs ends 1)
+    (test ((operation s o).result == want) fault.Sort (spot bs ends 1) (front (operation s o).arguments (drop 2 bs))))
 
 abbrev pub equality_at : Sig → ℕ → List ℕ → ℕ → Front
 equality_at s want bs ends =
-    test (want == 0) fault.Sort (place bs ends 0)
-    (byte bs ends 1 (λ t. test (nat_lt t (length s.sizes)) fault.Range (place bs ends 1) (front (arguments.Two t t) (drop 2 bs))))
+    test (want == 0) fault.Sort (spot bs ends 0)
+    (byte bs ends 1 (λ t. test (nat_lt t (length s.sizes)) fault.Range (spot bs ends 1) (front (arguments.Two t t) (drop 2 bs))))
 
 abbrev pub logic_at : Arguments → ℕ → List ℕ → ℕ → Front
-logic_at a want bs ends = test (want == 0) fault.Sort (place bs ends 0) (front a (drop 1 bs))
+logic_at a want bs ends = test (want == 0) fault.Sort (spot bs ends 0) (front a (drop 1 bs))
 
 abbrev pub head_at : Sig → List ℕ → Bool → ℕ → List ℕ → ℕ → Front
 head_at s vars deep want bs ends =
-    byte bs ends 0 (λ c. test (nat_le 0x20 c && nat_le c 0x25) fault.NoCommand (place bs ends 0)
-    (cond deep (none (in_term fault.Deep (place bs ends 0)))
+    byte bs ends 0 (λ c. test (nat_le 0x20 c && nat_le c 0x25) fault.NoCommand (spot bs ends 0)
+    (cond deep (none (in_term fault.Deep (spot bs ends 0)))
     (cond (c == 0x20) (variable_at vars want bs ends)
     (cond (c == 0x21) (constant_at s want bs ends)
     (cond (c == 0x22) (application_at s want bs ends)
@@ -88,9 +88,9 @@ parts t (front arguments.None r) = done r
 parts t (front (arguments.One a) r) = t a r
 parts t (front (arguments.Two a b) r) = then (t a r) (t b)
 
--- a term of sort want, of at most the given depth
+-- a term of sort want, of at most the given depth; at depth 0 the front is a fault, so that no part is asked for
 abbrev pub check_term : Sig → List ℕ → ℕ → ℕ → ℕ → List ℕ → Checked
-check_term s vars ends zero want bs = parts (λ t r. bad (in_term fault.Deep 0)) (head_at s vars true want bs ends)
+check_term s vars ends zero want bs = parts (λ t r. done r) (head_at s vars true want bs ends)
 check_term s vars ends (suc d) want bs = parts (check_term s vars ends d) (head_at s vars false want bs ends)
 
 -- a byte of a bag, or the fault that the file ends
@@ -102,19 +102,19 @@ bag_test ok f p r = cond ok r (bad (in_term f p))
 
 abbrev pub flexible_at : Sig → (ℕ → List ℕ → Checked) → ℕ → List ℕ → ℕ → Checked
 flexible_at s t want bs ends =
-    bag_byte bs ends 1 (λ k. bag_test (nat_lt k (length s.bags)) fault.Range (place bs ends 1)
-    (bag_test ((bag_operation s k).result == want) fault.Sort (place bs ends 1) (t (bag_operation s k).argument (drop 2 bs))))
+    bag_byte bs ends 1 (λ k. bag_test (nat_lt k (length s.bags)) fault.Range (spot bs ends 1)
+    (bag_test ((bag_operation s k).result == want) fault.Sort (spot bs ends 1) (t (bag_operation s k).argument (drop 2 bs))))
 
 -- a bag over the sort want, its terms checked by t and its bags by b
 abbrev pub bag_front : Sig → (ℕ → List ℕ → Checked) → (List ℕ → Checked) → Bool → ℕ → List ℕ → ℕ → Checked
 bag_front s t b deep want bs ends =
-    bag_byte bs ends 0 (λ c. bag_test (nat_le 0x30 c && nat_le c 0x33) fault.NoCommand (place bs ends 0)
-    (cond deep (bad (in_term fault.Deep (place bs ends 0)))
+    bag_byte bs ends 0 (λ c. bag_test (nat_le 0x30 c && nat_le c 0x33) fault.NoCommand (spot bs ends 0)
+    (cond deep (bad (in_term fault.Deep (spot bs ends 0)))
     (cond (c == 0x30) (done (drop 1 bs))
     (cond (c == 0x31) (t want (drop 1 bs))
     (cond (c == 0x32) (then (b (drop 1 bs)) b) (flexible_at s t want bs ends))))))
 
--- a bag over the sort want, of at most the given depth
+-- a bag over the sort want, of at most the given depth; at depth 0 no part of it is asked for either
 unfoldable pub check_bag : Sig → List ℕ → ℕ → ℕ → ℕ → List ℕ → Checked
 check_bag s vars ends zero want bs = bag_front s (λ t r. done r) (λ r. done r) true want bs ends
 check_bag s vars ends (suc d) want bs = bag_front s (check_term s vars ends d) (check_bag s vars ends d want) false want bs ends

@@ -1,5 +1,6 @@
 -- Terms and bags over a signature, and what they mean in a mode.
 use Rattle.std.specs.Prelude.{ℕ, ◌+◌, ◌*◌, Bool, true, cond, ◌&&◌, List, [], length, map, vec_items, ◌==◌, nat_lt, slice_index, slice_index_or}
+use Rattle.domain.specs.Meaning.{longest_row}
 use Rattle.term.specs.declared.signature.Arguments.{Arguments}
 use Rattle.term.specs.declared.signature.Arguments.TheVariants as arguments
 use Rattle.term.specs.declared.signature.BagOperation as bags
@@ -66,8 +67,11 @@ abbrev pub bag_operation : Sig → ℕ → BagOperation
 bag_operation s k = slice_index_or s.bags k no_bag
 
 -- how many elements a sort has, 0 where it is not declared
+abbrev pub size_of : List ℕ → ℕ → ℕ
+size_of sizes sort = slice_index sizes sort
+
 abbrev pub size : Sig → ℕ → ℕ
-size s sort = slice_index s.sizes sort
+size s = size_of s.sizes
 
 -- how many results stand together for one first argument
 abbrev pub width : Sig → Arguments → ℕ
@@ -101,6 +105,17 @@ count s m empty e = 0
 count s m (single t) e = truth (value s m t == e)
 count s m (sum a b) e = count s m a e + count s m b e
 count s m (flexible k t) e = copies_in s (bag_operation s k) (value s m t) e
+
+-- the most tokens of one row of a table: counts below 256, for less than 256 elements
+abbrev pub largest_row : ℕ
+largest_row = 255 * longest_row
+
+-- at most how many tokens a bag has
+abbrev pub most_tokens : Bag → ℕ
+most_tokens empty = 0
+most_tokens (single t) = 1
+most_tokens (sum a b) = most_tokens a + most_tokens b
+most_tokens (flexible k t) = largest_row
 
 -- the arguments that there are pass: the first by f, the second by g
 abbrev pub each : (ℕ → Bool) → (ℕ → Bool) → Arguments → Bool

@@ -1,13 +1,16 @@
 -- Markings and their value in a weight domain.
 use Rattle.std.specs.Prelude.{◌≡◌, ℕ, zero, suc, ◌+◌, ◌-◌, ◌*◌, ◌≤◌, cond, List, length, ℤ, pos, nat_le, slice_index_or}
 use Rattle.domain.specs.Meaning.{Meaning, copies, largest_sum, largest_weight}
-use Rattle.term.specs.Meaning.{Bag, empty, single, sum, flexible}
 
 -- a marking gives each cell a count, without limit
 abbrev pub Marking : Type 0
 Marking = ℕ → ℕ
 
--- counts of the elements of a place, as a marking: cell 64 × place + element
+-- the number of the cell of a place and an element: each place has 64 cells
+abbrev pub cell_at : ℕ → ℕ → ℕ
+cell_at place element = 64 * place + element
+
+-- counts of the elements of a place, as a marking
 abbrev pub on_place : ℕ → (ℕ → ℕ) → Marking
 on_place place f c = cond (nat_le (64 * place) c) (f (c - 64 * place)) 0
 
@@ -34,10 +37,3 @@ module _ {V : Type 0} (d : Meaning V) (codes : List ℤ) where
   -- the same, wherever the sizes stay within what adding promises
   abbrev pub Weighs : V → Marking → ℕ → V → Type 0
   Weighs v m n r = d.holds v → d.size v + largest_weight * n ≤ largest_sum → Weighed v m n r
-
--- at most how many tokens a bag has; a table has counts below 256 for less than 256 elements
-abbrev pub most : Bag → ℕ
-most empty = 0
-most (single t) = 1
-most (sum a b) = most a + most b
-most (flexible k t) = 65025

@@ -1,8 +1,8 @@
 ghost use Rattle.std.specs.Prelude.{◌≡◌, ◌*◌};
 ghost use Rattle.term.specs.Counts.{Added};
-ghost use Rattle.term.specs.Meaning.{of, count};
+ghost use Rattle.term.specs.Meaning.{count, most_tokens, of};
 ghost use Rattle.term.specs.Prefix.{bag_at};
-ghost use Rattle.term.specs.Worth.{Weighs, most, on_place};
+ghost use Rattle.term.specs.Worth.{Weighs, on_place};
 
 use crate::evaluate::Evaluator;
 use crate::tally::{Counts, Tally, Weighed};
@@ -11,7 +11,7 @@ use domain::{WeightDomain, Weights};
 impl<'s> Evaluator<'s> {
     // Adds the bag at the front of `bytes`, and gives what follows the bag.
     fn add_bag<'f, T: Tally>(&self, bytes: &'f [u8], depth: u8, tally: &mut T) -> &'f [u8]
-        ensures sum { T.gains tally.old (count (of self.now.signature) self.now.mode.now (bag_at (of self.now.signature) depth bytes.now).0) (most (bag_at (of self.now.signature) depth bytes.now).0) tally.new }
+        ensures sum { T.gains tally.old (count (of self.now.signature) self.now.mode.now (bag_at (of self.now.signature) depth bytes.now).0) (most_tokens (bag_at (of self.now.signature) depth bytes.now).0) tally.new }
         ensures rest { result.now ≡ (bag_at (of self.now.signature) depth bytes.now).1 }
     {
         if depth == 0 {
@@ -63,7 +63,7 @@ impl<'s> Evaluator<'s> {
         place: u8,
         sum: D::Value,
     ) -> (D::Value, &'f [u8])
-        ensures sum { Weighs (D.meaning weights.now.domain.now) weights.now.codes.now sum (on_place place (count (of self.now.signature) self.now.mode.now (bag_at (of self.now.signature) depth bytes.now).0)) (most (bag_at (of self.now.signature) depth bytes.now).0) result.0 }
+        ensures sum { Weighs (D.meaning weights.now.domain.now) weights.now.codes.now sum (on_place place (count (of self.now.signature) self.now.mode.now (bag_at (of self.now.signature) depth bytes.now).0)) (most_tokens (bag_at (of self.now.signature) depth bytes.now).0) result.0 }
         ensures rest { result.1.now ≡ (bag_at (of self.now.signature) depth bytes.now).1 }
     {
         let mut tally = Weighed {

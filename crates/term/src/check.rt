@@ -1,5 +1,5 @@
-ghost use Rattle.std.specs.Prelude.{◌≡◌, ℕ, ◌<◌, ◌≤◌, List, length, nat_eq, IfOk, slice_index};
-ghost use Rattle.term.specs.Check.{Checked, application_at, check_bag, check_term, checked, constant_at, equality_at, flexible_at, front_of, head_at, in_term, onward, place, variable_at};
+ghost use Rattle.std.specs.Prelude.{◌≡◌, ℕ, ◌<◌, ◌≤◌, List, length, nat_eq, IfOk};
+ghost use Rattle.term.specs.Check.{Checked, application_at, check_bag, check_term, checked, constant_at, equality_at, flexible_at, front_of, head_at, in_term, onward, spot, variable_at};
 ghost use Rattle.term.specs.Meaning.{of};
 ghost use Rattle.term.specs.Shape.{Flexible, Passed, PassedBag};
 
@@ -25,7 +25,7 @@ impl<'s> Checker<'s> {
     // A fault at the byte `k` of what is left. It stands beside the one of net files' commands, whose stage is another.
     fn refused(&self, fault: Fault, bytes: &[u8], k: usize) -> FileFault
         requires { k ≤ length bytes.now }
-        ensures { result ≡ in_term fault (place bytes.now self.now.ends k) }
+        ensures { result ≡ in_term fault (spot bytes.now self.now.ends k) }
     {
         FileFault {
             fault,

@@ -1,12 +1,12 @@
 // Terms and bags in prefix form: their check and their value in a mode.
 #![tactic(auto)]
 
-pub mod bag;
+mod bag;
 mod cells;
-pub mod check;
-pub mod evaluate;
-pub mod fault;
-pub mod signature;
+mod check;
+mod evaluate;
+mod fault;
+mod signature;
 mod tally;
 
 pub use cells::cell;

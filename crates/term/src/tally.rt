@@ -1,8 +1,9 @@
 // What the tokens of a bag are added to: counts in memory, or a value in a weight domain.
-ghost use Rattle.std.specs.Prelude.{◌≡◌, ℕ, ◌*◌, ◌<◌, if◌then◌else◌, length, nat_eq, slice_index};
+ghost use Rattle.std.specs.Prelude.{ℕ, ◌*◌, ◌<◌, if◌then◌else◌, length, nat_eq, slice_index};
 ghost use Rattle.term.specs.Adding.{counts_add, weights_add};
 ghost use Rattle.term.specs.Counts.{Added};
 ghost use Rattle.term.specs.Tally.{Adds, CountGains, WeightGains};
+ghost use Rattle.term.specs.Meaning.{largest_row};
 
 use crate::cells::cell;
 use domain::{WeightDomain, Weights, add_weight};
@@ -18,7 +19,7 @@ pub(crate) trait Tally {
     // Adds as many tokens of each element as a row says.
     fn add_row(&mut self, row: &[u8])
         requires few { length row.now < 256 }
-        ensures { gains self.old (λ e. (slice_index row.now e)) 65025 self.new };
+        ensures { gains self.old (λ e. (slice_index row.now e)) largest_row self.new };
 
     ghost laws: { Adds gains };
 }

@@ -2,4 +2,3 @@ pub mod Carried
 pub mod Filled
 pub mod Played
 pub mod Prefixes
-pub mod Refusals

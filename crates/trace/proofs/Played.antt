@@ -2,25 +2,24 @@
 use Rattle.std.proofs.Common.{◌≡◌, ℕ, ◌+◌, ◌<◌, ◌≤◌, List, [], ◌∷◌, ◌++◌, length, take, Some, Ok, Err, Option, Result, sym, refl, ap, subst, append_assoc, append-nil, arith, length-append, length-take}
 use Rattle.std.specs.Result.{result_err}
 use Rattle.lent.specs.declared.list.LentList.{LentList}
-use Rattle.term.specs.Faults.{number_of}
 use Rattle.term.specs.declared.fault.Fault.{Fault}
+use Rattle.term.specs.declared.fault.Fault.TheVariants as fail
 use Rattle.net.specs.declared.firing.Firing.{Firing}
 use Rattle.net.specs.System.{SystemNet}
 use Rattle.bench.specs.Calls.{Begun, Lent, Leads, marking}
 use Rattle.net.specs.Runs.{Reachable}
 use Rattle.bench.proofs.Walks.{reachable}
-use Rattle.trace.specs.Carrying.{Does, Done, Refuses, TurnedDown}
-use Rattle.trace.specs.Moves.{Move, written}
+use Rattle.trace.specs.Carrying.{Does, Done, Fitting, Refuses, TurnedDown}
+use Rattle.trace.specs.Moves.{Move, longest_trace, written}
 use Rattle.trace.specs.Stops.{cell_of}
 use Rattle.trace.specs.Reading.{Close, SaysOnly, close, end, fault, first_of, move, says, too_long}
-use Rattle.trace.specs.Recorded.{Holds}
+use Rattle.trace.specs.Recorded.{HoldsTrace}
 use Rattle.trace.specs.Replaying.{Played, Plays, Ran, RecordingCalled, ReplayCalled, Stops, lends, replayed}
 use Rattle.trace.specs.declared.recording.EndedRecording.{EndedRecording}
 use Rattle.trace.specs.declared.replays.Replayed.{Replayed}
 use Rattle.trace.specs.declared.replays.Stop.{Stop}
 use Rattle.trace.proofs.Carried.{done_more}
 use Rattle.trace.proofs.Prefixes.{counted, one_more, says_after, says_only, says_written}
-use Rattle.trace.proofs.Refusals.{stops_bench}
 
 -- a replay that goes on: of the bytes, some commands are carried out and counted, from the memory l to k, and the rest
 -- is left
@@ -29,20 +28,20 @@ pub record Going (n : SystemNet) (bs rest : List ℕ) (l k : Lent) (count : ℕ)
   pub begins : bs ≡ written moves ++ rest
   pub counted : count ≡ length moves
   pub done : Done n l moves k
-  pub short : length bs ≤ 65536
+  pub short : length bs ≤ longest_trace
 
 module _ (n : SystemNet) (bs rest : List ℕ) (l k : Lent) (count : ℕ) (g : Going n bs rest l k count) where
   -- so few commands that the count is exact
-  pub few : count ≤ 65536
+  pub few : count ≤ longest_trace
   few = let e = g.counted in let s = g.short in let b = ap length g.begins in omega (arith, counted g.moves rest, e, s, b)
 
   -- one command more
-  pub going_on : (m : Move) (next : List ℕ) (x : Lent) (more : ℕ) → first_of rest (length bs) ≡ move m next → Does n m k x → more ≡ count + 1 → Going n bs next l x more
-  going_on m next x more f d e = record {
+  pub going_on : (m : Move) (next : List ℕ) (x : Lent) (more : ℕ) → first_of rest (length bs) ≡ move m next → Does n m k x → Fitting x → more ≡ count + 1 → Going n bs next l x more
+  going_on m next x more f d fits e = record {
     moves = g.moves ++ m ∷ [];
     begins = one_more bs g.moves rest (length bs) m next g.begins f;
     counted = let c = g.counted in let z = length-append g.moves (m ∷ []) in omega (arith, c, z, e);
-    done = done_more n g.moves m l k x g.done d;
+    done = done_more n g.moves m l k x g.done d fits;
     short = g.short;
   }
 
@@ -69,10 +68,10 @@ module _ (n : SystemNet) (bs rest : List ℕ) (l k : Lent) (count : ℕ) (g : Go
       }
 
 -- of a trace that is too long nothing is carried out
-pub ran_long : (n : SystemNet) (bs : List ℕ) (l : Lent) (k : ℕ) (s : Stop) → 65536 < length bs → k ≡ 0 → number_of s.fault ≡ 1 → s.place ≡ 65536 → Ran n bs l l (record { carried = k; stop = Some s })
+pub ran_long : (n : SystemNet) (bs : List ℕ) (l : Lent) (k : ℕ) (s : Stop) → longest_trace < length bs → k ≡ 0 → s.fault ≡ fail.TooLong → s.place ≡ longest_trace → Ran n bs l l (record { carried = k; stop = Some s })
 ran_long n bs l k s h e f p = record {
   said = [];
-  close = fault 1 65536;
+  close = fault fail.TooLong longest_trace;
   says = says_only (too_long h);
   plays = record { moves = []; left = []; whole = refl; done = refl; carried = e; stops = (f, p) };
 }
@@ -108,7 +107,7 @@ pub recording_called : (n : SystemNet) (mem : List ℕ) (e : EndedRecording) (bs
 recording_called n mem e bs cells trail cells' trail' (Ok r) l b h =
     let k = lends cells' trail' in
     let p : Played n (take e.len mem) (lends cells trail) k r = subst (λ (x : List ℕ). Played n x (lends cells trail) k r) b h.1 in
-    let short : length (take e.len mem) ≤ 65536 = simp length-take (omega arith) in
-    let plays : (ms : List Move) → Holds mem e ms → Plays n ms end p.start k r = λ ms m. replays n (take e.len mem) ms end p.start k r p.ran (says_written (take e.len mem) ms short m) in
-    (l, h.0, record { played = p; commands = plays; sound = λ ms m s f. stops_bench n k (plays ms m).left r.stop s (plays ms m).stops f })
+    let short : length (take e.len mem) ≤ longest_trace = simp length-take (omega arith) in
+    let plays : (ms : List Move) → HoldsTrace mem e ms → Plays n ms end p.start k r = λ ms m. replays n (take e.len mem) ms end p.start k r p.ran (says_written (take e.len mem) ms short m) in
+    (l, h.0, record { played = p; commands = plays })
 recording_called n mem e bs cells trail cells' trail' (Err f) l b h = ((λ _ c. h.0 c), h.1, h.2, h.3)

@@ -1,8 +1,8 @@
 -- Recordings: which bytes the memory holds, and which fault a call gives.
-use Rattle.std.specs.Prelude.{◌≡◌, ℕ, ◌+◌, min, cond, List, [], ◌∷◌, ◌++◌, length, take, drop, Some, None, Ok, Err, Option, Result, ◌==◌, nat_le}
-use Rattle.term.specs.Faults.{number_of}
+use Rattle.std.specs.Prelude.{◌≡◌, ℕ, ◌+◌, min, cond, List, [], ◌∷◌, ◌++◌, length, take, drop, Some, None, Option, ◌==◌, nat_le}
 use Rattle.term.specs.declared.fault.Fault.{Fault}
-use Rattle.trace.specs.Moves.{Move, bytes_of, trace_of, written}
+use Rattle.term.specs.declared.fault.Fault.TheVariants as fail
+use Rattle.trace.specs.Moves.{Move, end_bytes, longest_trace, move_bytes, trace_of, written}
 use Rattle.trace.specs.declared.recording.EndedRecording.{EndedRecording}
 use Rattle.trace.specs.declared.recording.OpenRecording.{OpenRecording}
 
@@ -11,32 +11,28 @@ abbrev pub Records : List ℕ → OpenRecording → List Move → Type 0
 Records mem o ms = take o.len mem ≡ written ms
 
 -- the first bytes of the memory are a whole trace of the commands
-abbrev pub Holds : List ℕ → EndedRecording → List Move → Type 0
-Holds mem e ms = take e.len mem ≡ trace_of ms
+abbrev pub HoldsTrace : List ℕ → EndedRecording → List Move → Type 0
+HoldsTrace mem e ms = take e.len mem ≡ trace_of ms
 
 -- the memory with some bytes written at a place, the rest as it was
 abbrev pub put_at : List ℕ → ℕ → List ℕ → List ℕ
 put_at mem at bs = take at mem ++ (bs ++ drop (at + length bs) mem)
 
--- the number of the fault, if a call is refused
-abbrev pub refusal : {X : Type 0} → Result X Fault → Option ℕ
-refusal (Ok x) = None
-refusal (Err e) = Some (number_of e)
+-- the fault that opening gives, if it is refused: where the memory has no byte for the end
+abbrev pub opening_fault : List ℕ → Option Fault
+opening_fault mem = cond (nat_le 1 (length mem)) None (Some fail.RecordingFull)
 
--- opening: 24 where the memory has no byte for the end
-abbrev pub opening : List ℕ → Option ℕ
-opening mem = cond (nat_le 1 (length mem)) None (Some 24)
-
--- adding n bytes: 11 where the memory has another length; 24 where they and the free byte do not fit into the memory or 65,536 bytes
-abbrev pub adding : OpenRecording → List ℕ → ℕ → Option ℕ
-adding o mem n =
+-- the fault that adding n bytes gives, if it is refused: where the memory has another length, and where they and the free
+-- byte do not fit into the memory or into a trace
+abbrev pub adding_fault : OpenRecording → List ℕ → ℕ → Option Fault
+adding_fault o mem n =
     cond (length mem == o.room)
-    (cond (nat_le (o.len + n + 1) (min (length mem) 65536)) None (Some 24))
-    (Some 11)
+    (cond (nat_le (o.len + n + 1) (min (length mem) longest_trace)) None (Some fail.RecordingFull))
+    (Some fail.Memory)
 
--- memory of n bytes is lent: 11 where it has another length
-abbrev pub measured : ℕ → List ℕ → Option ℕ
-measured n mem = cond (length mem == n) None (Some 11)
+-- the fault that memory gives where n bytes are to be lent, if it has another length
+abbrev pub memory_fault : ℕ → List ℕ → Option Fault
+memory_fault n mem = cond (length mem == n) None (Some fail.Memory)
 
 -- bytes are appended, and nothing else is changed
 pub record Appended (o o' : OpenRecording) (mem mem' bs : List ℕ) : Type 0 where
@@ -50,13 +46,13 @@ pub record Kept (o o' : OpenRecording) (mem mem' : List ℕ) : Type 0 where
   pub recording : o' ≡ o
 
 -- one command more is recorded
-pub record Added (o o' : OpenRecording) (mem mem' : List ℕ) (m : Move) : Type 0 where
-  pub bytes : Appended o o' mem mem' (bytes_of m)
+pub record CommandAdded (o o' : OpenRecording) (mem mem' : List ℕ) (m : Move) : Type 0 where
+  pub bytes : Appended o o' mem mem' (move_bytes m)
   pub records : (ms : List Move) → Records mem o ms → Records mem' o' (ms ++ m ∷ [])
 
 -- the end is written, and what was recorded is a whole trace
 pub record Closed (o : OpenRecording) (e : EndedRecording) (mem mem' : List ℕ) : Type 0 where
-  pub memory : mem' ≡ put_at mem o.len (0x4F ∷ [])
+  pub memory : mem' ≡ put_at mem o.len end_bytes
   pub len : e.len ≡ o.len + 1
   pub room : e.room ≡ o.room
-  pub records : (ms : List Move) → Records mem o ms → Holds mem' e ms
+  pub records : (ms : List Move) → Records mem o ms → HoldsTrace mem' e ms

@@ -2,32 +2,31 @@
 use Rattle.std.specs.Prelude.{◌≡◌, ℕ, ◌≤◌, List, [], ◌∷◌, ◌++◌, length, take, Some, None, Ok, Err, Option, Result, ◌≢◌}
 use Rattle.lent.specs.Held.{held, memory as whole}
 use Rattle.lent.specs.declared.list.LentList.{LentList}
-use Rattle.term.specs.Faults.{number_of}
 use Rattle.term.specs.declared.fault.Fault.{Fault}
 use Rattle.term.specs.declared.fault.Fault.TheVariants.{Memory}
 use Rattle.net.specs.Runs.{Bounded, Reachable}
 use Rattle.net.specs.declared.firing.Firing.{Firing}
-use Rattle.net.specs.System.{SystemNet}
+use Rattle.net.specs.System.{SystemNet, cells}
 use Rattle.bench.specs.Calls.{Begun, Lent, Leads, marking}
-use Rattle.trace.specs.Carrying.{Done, FromBench, TurnedDown}
+use Rattle.trace.specs.Carrying.{Done, TurnedDown}
 use Rattle.trace.specs.Moves.{Move}
 use Rattle.trace.specs.Reading.{Close, SaysOnly, end, fault}
-use Rattle.trace.specs.Recorded.{Holds}
+use Rattle.trace.specs.Recorded.{HoldsTrace}
 use Rattle.trace.specs.declared.recording.EndedRecording.{EndedRecording}
 use Rattle.trace.specs.declared.replays.Replayed.{Replayed}
 use Rattle.trace.specs.declared.replays.Stop.{Stop}
 
 -- the memory that a caller lends: the counts and the trail
 abbrev pub lends : List ℕ → LentList Firing → Lent
-lends cells l = record { counts = cells; trail = held l; memory = whole l }
+lends counts l = record { counts = counts; trail = held l; memory = whole l }
 
 -- where a replay stops, with the commands that are left and what closes the trace: nowhere if none is left and the end
 -- comes, at the fault of the bytes and its byte, or at the first command left, which the bench turns down
 abbrev pub Stops : SystemNet → Lent → List Move → Close → Option Stop → Type 0
 Stops n k [] end None = Unit {0}
 Stops n k [] end (Some s) = ⊥
-Stops n k [] (fault i p) None = ⊥
-Stops n k [] (fault i p) (Some s) = (number_of s.fault ≡ i) × (s.place ≡ p)
+Stops n k [] (fault f p) None = ⊥
+Stops n k [] (fault f p) (Some s) = (s.fault ≡ f) × (s.place ≡ p)
 Stops n k (m ∷ ms) c None = ⊥
 Stops n k (m ∷ ms) c (Some s) = TurnedDown n m k s
 
@@ -63,23 +62,22 @@ pub record Played (n : SystemNet) (bs : List ℕ) (l k : Lent) (r : Replayed) : 
   pub reachable : Reachable n (marking k)
   pub bounded : (c b : ℕ) → Bounded n c b → marking k c ≤ b
 
--- what a replay answers: counts of another length than 1,024 are refused with 11, and nothing is changed; else the trace
--- is replayed in the memory lent, which holds afterwards what the bench held at the end
+-- what a replay answers: counts that are not one for each cell are a fault of memory, and nothing is changed; else the
+-- trace is replayed in the memory lent, which holds afterwards what the bench held at the end
 abbrev pub ReplayCalled : SystemNet → List ℕ → List ℕ → LentList Firing → List ℕ → LentList Firing → Result Replayed Fault → Type 0
-ReplayCalled n bs cells trail cells' trail' (Ok r) = (length cells ≡ 1024) × Played n bs (lends cells trail) (lends cells' trail') r
-ReplayCalled n bs cells trail cells' trail' (Err e) = (length cells ≢ 1024) × (e ≡ Memory) × (cells' ≡ cells) × (trail' ≡ trail)
+ReplayCalled n bs counts trail counts' trail' (Ok r) = (length counts ≡ cells) × Played n bs (lends counts trail) (lends counts' trail') r
+ReplayCalled n bs counts trail counts' trail' (Err e) = (length counts ≢ cells) × (e ≡ Memory) × (counts' ≡ counts) × (trail' ≡ trail)
 
 -- a recording replayed on a new bench, from the memory l to k: the commands recorded are carried out in their order, up
--- to the first that the bench turns down, and no fault of the bytes ever stops it
+-- to the first that the bench turns down; so no fault of the bytes ever stops it
 pub record RecordingPlayed (n : SystemNet) (mem : List ℕ) (e : EndedRecording) (l k : Lent) (r : Replayed) : Type 0 where
   pub played : Played n (take e.len mem) l k r
-  pub commands : (ms : List Move) → Holds mem e ms → Plays n ms end played.start k r
-  pub sound : (ms : List Move) → Holds mem e ms → (s : Stop) → r.stop ≡ Some s → FromBench s.fault
+  pub commands : (ms : List Move) → HoldsTrace mem e ms → Plays n ms end played.start k r
 
--- what the replay of a recording answers: counts of another length than 1,024, or memory of another length than the
--- recording's, are refused with 11, and nothing is changed
+-- what the replay of a recording answers: counts that are not one for each cell, or memory of another length than the
+-- recording's, are a fault of memory, and nothing is changed
 abbrev pub RecordingCalled : SystemNet → List ℕ → EndedRecording → List ℕ → LentList Firing → List ℕ → LentList Firing → Result Replayed Fault → Type 0
-RecordingCalled n mem e cells trail cells' trail' (Ok r) =
-    (length mem ≡ e.room) × (length cells ≡ 1024) × RecordingPlayed n mem e (lends cells trail) (lends cells' trail') r
-RecordingCalled n mem e cells trail cells' trail' (Err f) =
-    (length mem ≡ e.room → length cells ≢ 1024) × (f ≡ Memory) × (cells' ≡ cells) × (trail' ≡ trail)
+RecordingCalled n mem e counts trail counts' trail' (Ok r) =
+    (length mem ≡ e.room) × (length counts ≡ cells) × RecordingPlayed n mem e (lends counts trail) (lends counts' trail') r
+RecordingCalled n mem e counts trail counts' trail' (Err f) =
+    (length mem ≡ e.room → length counts ≢ cells) × (f ≡ Memory) × (counts' ≡ counts) × (trail' ≡ trail)

@@ -11,12 +11,12 @@ ghost use Rattle.net.specs.Of.{system};
 use crate::commands::{Command, first};
 use crate::recording::EndedRecording;
 use bench::{Counts, Firing, back_on, begin_on, fire_on, measure};
-use lent::list::LentList;
+use lent::LentList;
 use net::Net;
 use term::Fault;
 
 // The longest trace, by a rule of its own.
-pub const LONGEST: usize = 65536;
+pub(crate) const LONGEST: usize = 65536;
 
 // Where a replay stopped: the fault, and the cell or the byte that it names, else 0.
 #[derive(Clone, Copy, PartialEq, Eq, Debug)]
@@ -133,7 +133,8 @@ pub fn replay(
     trail: &mut LentList<Firing>,
     bytes: &[u8],
 ) -> Result<Replayed, Fault>
-    ensures { ReplayCalled (system net.now) bytes.now cells.old trail.old cells.new trail.new result }
+    ensures called { ReplayCalled (system net.now) bytes.now cells.old trail.old cells.new trail.new result }
+    ensures trail_loan { list.loan trail.new ≡ list.loan trail.old }
 {
     measure(cells)?;
     let mut counts = Counts { cells };
@@ -148,7 +149,8 @@ pub fn replay_recording(
     ended: &EndedRecording,
     memory: &[u8],
 ) -> Result<Replayed, Fault>
-    ensures { RecordingCalled (system net.now) memory.now ended.now cells.old trail.old cells.new trail.new result }
+    ensures called { RecordingCalled (system net.now) memory.now ended.now cells.old trail.old cells.new trail.new result }
+    ensures trail_loan { list.loan trail.new ≡ list.loan trail.old }
 {
     let bytes = ended.trace(memory)?;
     replay(net, cells, trail, bytes)

@@ -12,8 +12,8 @@ use Rattle.term.specs.declared.fault.Fault.TheVariants as fault
 use Rattle.net.specs.Nets.{HasCell, codes_of}
 use Rattle.net.specs.Runs.{initial}
 use Rattle.net.specs.System.{SystemNet}
-use Rattle.judge.specs.Calls.{AllWeigh, Called, Fits, Memory}
-use Rattle.judge.specs.Caps.{AllPlain, Asked, AskedByKind, Blind, CapIs}
+use Rattle.judge.specs.Calls.{AllWeigh, Fits, JudgeCalled, Memory}
+use Rattle.judge.specs.Caps.{AllPlain, AskedByItsKind, AskedByKind, CapCalled, CapIs, NoCapCalled}
 use Rattle.judge.specs.Judged.{Judged, Verdict}
 use Rattle.judge.specs.declared.verdict.Breach.{Breach}
 use Rattle.worked.specs.Rows.{Answer, Shows, cap_shown, refusal}
@@ -83,13 +83,13 @@ module _ {V : Type 0} (d : Meaning V) (p : V → Type 0) (n : SystemNet) (claim 
     no_cell : (HasCell n cell → ⊥) → Case (Err fault.NoCell)
     not_accepted : HasCell n cell → (x : Breach V) → Judged d (codes_of n claim) n (Err x) → Case (Err fault.NotAccepted)
 
-  case_of : claim < length n.claims → AllWeigh d (codes_of n claim) → AllPlain d p (codes_of n claim) → (m k : Memory) → Fits m → (r : Result (Option ℕ) Fault) → Asked d p n claim cell m k r → Case r
+  case_of : claim < length n.claims → AllWeigh d (codes_of n claim) → AllPlain d p (codes_of n claim) → (m k : Memory) → Fits m → (r : Result (Option ℕ) Fault) → CapCalled d p n claim cell m k r → Case r
   case_of there all natural m k fits (Ok most) (h, _, (c, called), cap) =
       number h c (subst (λ (x : List ℤ). Judged d x n (Ok c)) called.2 called.4.judged) (subst (λ (x : List ℤ). CapIs d p x n cell most) called.2 cap)
-  case_of there all natural m k fits (Err fault.NoCell) a = no_cell a.2
+  case_of there all natural m k fits (Err fault.NoCell) a = no_cell a.0.2
   case_of there all natural m k fits (Err fault.NotAccepted) (h, _, (x, called)) = not_accepted h x (subst (λ (z : List ℤ). Judged d z n (Err x)) called.2 called.4.judged)
   case_of there all natural m k fits (Err fault.Memory) a = absurd (a.0 fits)
-  case_of there all natural m k fits (Err fault.NoClaim) a = let h = a.1 in absurd (omega arith)
+  case_of there all natural m k fits (Err fault.NoClaim) a = let h = a.0.1 in absurd (omega arith)
   case_of there all natural m k fits (Err fault.NoWeight) a = absurd (a.1.3 (subst (AllWeigh d) (sym a.1.2) all))
   case_of there all natural m k fits (Err fault.NotPlain) a = absurd (a.5 (subst (AllPlain d p) (sym a.3) natural))
   case_of there all natural m k fits (Err e) a = absurd a
@@ -113,7 +113,7 @@ module _ {V : Type 0} (d : Meaning V) (p : V → Type 0) (n : SystemNet) (claim 
 
 -- what a call can answer by a kind that does not measure
 module _ (n : SystemNet) (claim cell : ℕ) (there : claim < length n.claims) (m k : Memory) (fits : Fits m) where
-  blind_only : HasCell n cell → (r : Result (Option ℕ) Fault) → Blind n claim cell m k r → refusal fault.NotPlain ≡ cap_shown r
+  blind_only : HasCell n cell → (r : Result (Option ℕ) Fault) → NoCapCalled n claim cell m k r → refusal fault.NotPlain ≡ cap_shown r
   blind_only h (Ok most) b = absurd b
   blind_only h (Err fault.NotPlain) b = refl
   blind_only h (Err fault.NoCell) b = absurd (b.0.2 h)
@@ -121,7 +121,7 @@ module _ (n : SystemNet) (claim cell : ℕ) (there : claim < length n.claims) (m
   blind_only h (Err fault.NoClaim) b = let z = b.0.1 in absurd (omega arith)
   blind_only h (Err e) b = absurd b.0
 
-  blind_no_cell : (HasCell n cell → ⊥) → (r : Result (Option ℕ) Fault) → Blind n claim cell m k r → refusal fault.NoCell ≡ cap_shown r
+  blind_no_cell : (HasCell n cell → ⊥) → (r : Result (Option ℕ) Fault) → NoCapCalled n claim cell m k r → refusal fault.NoCell ≡ cap_shown r
   blind_no_cell h (Ok most) b = absurd b
   blind_no_cell h (Err fault.NotPlain) b = absurd (h b.1)
   blind_no_cell h (Err fault.NoCell) b = refl
@@ -131,7 +131,7 @@ module _ (n : SystemNet) (claim cell : ℕ) (there : claim < length n.claims) (m
 
 -- a cap by kind is a cap under the kind's domain, where that measures
 module _ (n : SystemNet) (claim cell : ℕ) (m k : Memory) (r : Result (Option ℕ) Fault) where
-  sighted : (x : Kind) → kind_measures x ≡ true → AskedByKind x n claim cell m k r ≡ Asked (domain_of x) (plain_of x) n claim cell m k r
+  sighted : (x : Kind) → kind_measures x ≡ true → AskedByKind x n claim cell m k r ≡ CapCalled (domain_of x) (plain_of x) n claim cell m k r
   sighted kind.Equal e = refl
   sighted kind.NeverRises e = refl
   sighted kind.NeverFalls e = absurd (true≢false (sym e))
@@ -139,7 +139,7 @@ module _ (n : SystemNet) (claim cell : ℕ) (m k : Memory) (r : Result (Option �
   sighted kind.Trap e = absurd (true≢false (sym e))
   sighted kind.Siphon e = refl
 
-  blind : (x : Kind) → kind_measures x ≡ false → AskedByKind x n claim cell m k r ≡ Blind n claim cell m k r
+  blind : (x : Kind) → kind_measures x ≡ false → AskedByKind x n claim cell m k r ≡ NoCapCalled n claim cell m k r
   blind kind.Equal e = absurd (true≢false e)
   blind kind.NeverRises e = absurd (true≢false e)
   blind kind.NeverFalls e = refl
@@ -149,14 +149,14 @@ module _ (n : SystemNet) (claim cell : ℕ) (m k : Memory) (r : Result (Option �
 
 -- what the answer for a cell is to be
 abbrev pub Capping : SystemNet → ℕ → ℕ → Answer → Type 0
-Capping n claim cell a = Shows (λ x m k r. AskedByKind x n claim cell m k r) cap_shown n claim a
+Capping n claim cell a = Shows (AskedByItsKind n claim cell) cap_shown a
 
 -- the answer computed is the answer
 module _ (n : SystemNet) (claim cell : ℕ) (there : claim < length n.claims) (x : Kind) (of : x ≡ kind_at n claim) (fine : weights n claim x ≡ true) where
   -- under the domain of a kind that measures
   module _ (measures : kind_measures x ≡ true) (natural : plains n claim x ≡ true) where
     abbrev asked : Memory → Memory → Result (Option ℕ) Fault → Type 0
-    asked m k r = Asked (domain_of x) (plain_of x) n claim cell m k r
+    asked m k r = CapCalled (domain_of x) (plain_of x) n claim cell m k r
 
     all_plain : AllPlain (domain_of x) (plain_of x) (codes_of n claim)
     all_plain c h =
@@ -165,7 +165,7 @@ module _ (n : SystemNet) (claim cell : ℕ) (there : claim < length n.claims) (x
     plain_in : {codes : List ℤ} → codes ≡ codes_of n claim → AllPlain (domain_of x) (plain_of x) codes
     plain_in e = subst (AllPlain (domain_of x) (plain_of x)) (sym e) all_plain
 
-    answered : (v : Verdict (Values x)) → Judged (domain_of x) (codes_of n claim) n v → (m : Memory) → Fits m → (k : Memory) × Called (domain_of x) n claim m k (Ok v)
+    answered : (v : Verdict (Values x)) → Judged (domain_of x) (codes_of n claim) n v → (m : Memory) → Fits m → (k : Memory) × JudgeCalled (domain_of x) n claim m k (Ok v)
     answered v j m fits = let f = weights_are n claim x fine in called (laws_of x) n claim there f.0 f.1 v j m fits
 
     told : plain x (weight n claim cell x) ≡ true → CapIs (domain_of x) (plain_of x) (codes_of n claim) n cell (most_of n claim cell x)
@@ -176,7 +176,7 @@ module _ (n : SystemNet) (claim cell : ℕ) (there : claim < length n.claims) (x
     by_asked : (r : Result (Option ℕ) Fault) → ((m : Memory) → Fits m → (k : Memory) × asked m k r)
         → ((s : Result (Option ℕ) Fault) → Case (domain_of x) (plain_of x) n claim cell s → cap_shown r ≡ cap_shown s) → Capping n claim cell (cap_shown r)
     by_asked r some only =
-        shows (λ z m k s. AskedByKind z n claim cell m k s) cap_shown n claim there asked
+        shows (AskedByItsKind n claim cell) cap_shown asked
         (λ m k s. ap (λ (z : Kind). AskedByKind z n claim cell m k s) (sym of) ∙ sighted n claim cell m k s x measures) r some
         (λ m k s fits a. only s (case_of (domain_of x) (plain_of x) n claim cell there (weights_are n claim x fine).1 all_plain m k fits s a))
 
@@ -197,14 +197,14 @@ module _ (n : SystemNet) (claim cell : ℕ) (there : claim < length n.claims) (x
 
     on_cell : (b : Bool) → Tells b (HasCell n cell) → Sound (Capping n claim cell) (cond b (by_verdict n claim cell x (verdict_by n claim x)) (Some (refusal fault.NoCell)))
     on_cell true h = on_verdict h (verdict_by n claim x) (verdict_judged n claim x)
-    on_cell false h = by_asked (Err fault.NoCell) (λ m fits. (m, (fits, there, h, refl))) (no_cell_only (domain_of x) (plain_of x) n claim cell h)
+    on_cell false h = by_asked (Err fault.NoCell) (λ m fits. (m, ((fits, there, h), refl))) (no_cell_only (domain_of x) (plain_of x) n claim cell h)
 
   -- by a kind that does not measure
   module _ (blinded : kind_measures x ≡ false) where
-    by_blind : (r : Result (Option ℕ) Fault) → ((m : Memory) → Fits m → (k : Memory) × Blind n claim cell m k r)
-        → ((m k : Memory) (s : Result (Option ℕ) Fault) → Fits m → Blind n claim cell m k s → cap_shown r ≡ cap_shown s) → Capping n claim cell (cap_shown r)
+    by_blind : (r : Result (Option ℕ) Fault) → ((m : Memory) → Fits m → (k : Memory) × NoCapCalled n claim cell m k r)
+        → ((m k : Memory) (s : Result (Option ℕ) Fault) → Fits m → NoCapCalled n claim cell m k s → cap_shown r ≡ cap_shown s) → Capping n claim cell (cap_shown r)
     by_blind r some only =
-        shows (λ z m k s. AskedByKind z n claim cell m k s) cap_shown n claim there (λ m k s. Blind n claim cell m k s)
+        shows (AskedByItsKind n claim cell) cap_shown (NoCapCalled n claim cell)
         (λ m k s. ap (λ (z : Kind). AskedByKind z n claim cell m k s) (sym of) ∙ blind n claim cell m k s x blinded) r some only
 
     on_blind_cell : (b : Bool) → Tells b (HasCell n cell) → Sound (Capping n claim cell) (cond b (Some (refusal fault.NotPlain)) (Some (refusal fault.NoCell)))

@@ -4,7 +4,7 @@ use Rattle.format.specs.Format.{arc_bag, guard_term}
 use Rattle.term.specs.Check.{check_bag}
 use Rattle.term.specs.Prefix.{bag_at, term_at}
 use Rattle.net.specs.Reading.{Told, commands, told}
-use Rattle.judge.specs.Judged.{firing, number}
+use Rattle.judge.specs.Judged.{true_modes, true_modes_to}
 use Rattle.worked.specs.Rows.{Answer, Answers, Holds, Question, Row, cap, fault_shown, fire, judge, net_shown, read}
 use Rattle.worked.specs.Table.{Every, WorkedExamples, table}
 use Rattle.worked.proofs.Caps.{capping, capping_sound}
@@ -34,7 +34,7 @@ expected r = Some r.answer
 
 -- the whole table: the answers computed are those of the rows
 computed : map answered table ≡ map expected table
-unfolding term_at bag_at check_bag guard_term arc_bag commands firing number
+unfolding term_at bag_at check_bag guard_term arc_bag commands true_modes true_modes_to
 computed = refl
 
 holds : (r : Row) → answered r ≡ expected r → Holds r

@@ -11,7 +11,8 @@ use Rattle.domain.specs.declared.kind.Kind.TheVariants as kind
 use Rattle.domain.specs.Residues.{residue_laws}
 use Rattle.domain.specs.Truths.{truth_laws}
 use Rattle.domain.specs.Turning.{turned_laws}
-use Rattle.domain.specs.Wholes.{equal_laws, equal_relates, never_rises_laws, never_rises_relates}
+use Rattle.domain.specs.Wholes.{equal_relates, never_rises_relates}
+use Rattle.domain.proofs.Wholes.{equal_laws, never_rises_laws}
 use Rattle.domain.proofs.Measures.{largest_truth, largest_whole}
 
 -- the values of a kind's domain, the domain, and what it calls plain, where it measures

@@ -1,18 +1,18 @@
 -- Firing, computed: the firings before lead to the marking computed and to no other, and there the contract of fire
 -- allows a result that shows the answer, and none that shows another.
-use Rattle.std.proofs.Common.{◌≡◌, ℕ, ◌+◌, ◌-◌, ◌<◌, ◌≤◌, Bool, true, false, cond, ◌&&◌, eqb, ltb, List, [], ◌∷◌, ◌++◌, length, map, get_or, slice_set, Some, None, Ok, Err, Option, Result, sym, refl, ap, ◌∙◌, true≢false, zero-add, arith, ltb-false, ltb-true, eqb-true}
+use Rattle.std.proofs.Common.{◌≡◌, ℕ, ◌+◌, ◌-◌, ◌<◌, Bool, true, false, cond, ◌&&◌, eqb, ltb, List, [], ◌∷◌, ◌++◌, length, map, get_or, slice_set, Some, None, Ok, Err, Option, Result, sym, refl, ap, ◌∙◌, true≢false, zero-add, arith, ltb-false, ltb-true, eqb-true}
 use Rattle.std.specs.List.{range_with_len}
 use Rattle.std.proofs.lemmas.List.FromFn.{get_or-map-range_with_len}
 use Rattle.term.specs.Worth.{Marking}
 use Rattle.term.specs.declared.fault.Fault.{Fault}
 use Rattle.term.specs.declared.fault.Fault.TheVariants as fault
 use Rattle.net.specs.Nets.{given, guard_holds, taken, transition}
-use Rattle.net.specs.Runs.{Fires, Run, cells, initial}
-use Rattle.net.specs.System.{SystemNet}
+use Rattle.net.specs.Runs.{Alike, Enabled, Fires, Open, Run, initial}
+use Rattle.net.specs.System.{SystemNet, cells}
 use Rattle.net.specs.declared.firing.Firing.{Firing}
-use Rattle.bench.specs.Calls.{FireCalled, Lacking, Lent, Lowest, Nowhere, Open, Passing, marking}
-use Rattle.bench.specs.Path.{Alike}
-use Rattle.worked.specs.Rows.{Answer, Leads, Replies, StandsAt, fire_shown, fired, pair, refusal}
+use Rattle.bench.specs.Calls.{FireCalled, Lacking, Lent, Lowest, Nowhere, Passing, marking}
+use Rattle.bench.specs.Counted.{largest_count}
+use Rattle.worked.specs.Rows.{Answer, Leads, Replies, StandsAt, fire_shown, fired, refusal}
 use Rattle.worked.proofs.First.{IsFirst, first, first_is, order}
 use Rattle.worked.proofs.Verdicts.{Sound, both_true}
 
@@ -31,7 +31,7 @@ abbrev lacks : SystemNet → Firing → Marking → ℕ → Bool
 lacks n f x c = ltb (x c) (taken n f.transition f.mode c)
 
 abbrev passes : SystemNet → Firing → Marking → ℕ → Bool
-passes n f x c = ltb 65535 (next n f x c)
+passes n f x c = ltb largest_count (next n f x c)
 
 -- a marking found, unless a cell lacks tokens
 abbrev unless : {A : Type 0} → Option ℕ → Option A → Option A
@@ -57,26 +57,24 @@ reply n f (Some x) = replied (first (lacks n f x) cells) (first (passes n f x) c
 abbrev pub replying : SystemNet → List Firing → Firing → Option Answer
 replying n fs f = cond (opens n f) (reply n f (run_to n (initial n) fs)) None
 
-opened : (n : SystemNet) (f : Firing) → opens n f ≡ true → Open n f × (length f.mode ≡ 4)
+opened : (n : SystemNet) (f : Firing) → opens n f ≡ true → Open n f.transition f.mode
 opened n f e =
     let a = both_true _ _ e in
     let b = both_true _ _ a.1 in
     let c = both_true _ _ b.1 in
     let p = both_true _ _ c.0 in
     let q = both_true _ _ p.1 in
-    let r = both_true _ _ q.1 in (
-      record {
-        there = ltb-true _ _ a.0;
-        mode = record { first = ltb-true _ _ p.0; second = ltb-true _ _ q.0; third = ltb-true _ _ r.0; fourth = ltb-true _ _ r.1 };
-        guard = c.1;
-      },
-      eqb-true _ _ b.0,
-    )
+    let r = both_true _ _ q.1 in
+    record {
+      there = ltb-true _ _ a.0;
+      mode = record { four = eqb-true _ _ b.0; first = ltb-true _ _ p.0; second = ltb-true _ _ q.0; third = ltb-true _ _ r.0; fourth = ltb-true _ _ r.1 };
+      guard = c.1;
+    }
 
 -- what the first cells are, on a marking that is alike
 module _ (n : SystemNet) (f : Firing) (a x : Marking) (same : Alike a x) where
-  enough : IsFirst (lacks n f x) cells None → Nowhere (Lacking n f a)
-  enough g c h l = let e = same c h in let z = ltb-false _ _ (g c h) in omega arith
+  able : Open n f.transition f.mode → IsFirst (lacks n f x) cells None → Enabled n f.transition f.mode a
+  able o g = record { is_open = o; enough = λ c h. let e = same c h in let z = ltb-false _ _ (g c h) in omega arith }
 
   short : (c : ℕ) → IsFirst (lacks n f x) cells (Some c) → Lowest (Lacking n f a) c
   short c (h, holds, fails) = record {
@@ -91,24 +89,11 @@ module _ (n : SystemNet) (f : Firing) (a x : Marking) (same : Alike a x) where
   room : IsFirst (passes n f x) cells None → Nowhere (Passing n f a)
   room g c h p = let e = after c h in let z = ltb-false _ _ (g c h) in omega (arith, e, z, p)
 
-not_less : (p q : ℕ) → (p < q → ⊥) → q ≤ p
-not_less p q h = grind arith
-
 module _ (n : SystemNet) where
-  fires : (f : Firing) (x y : Marking) → Open n f → length f.mode ≡ 4 → Nowhere (Lacking n f x) → Alike y (next n f x) → Fires n f.transition f.mode x y
-  fires f x y o four l is = record {
-    there = o.there;
-    four = four;
-    mode = o.mode;
-    guard = o.guard;
-    enough = λ c h. not_less (x c) (taken n f.transition f.mode c) (l c h);
-    new = is;
-  }
-
   -- the marking found is one to which the firings lead
   abbrev Found : Marking → List Firing → Option Marking → Type 0
   Found x fs None = Unit {0}
-  Found x fs (Some y) = Run n x (map pair fs) y
+  Found x fs (Some y) = Run n x fs y
 
   found : (x : Marking) (fs : List Firing) → Found x fs (run_to n x fs)
   found x [] = λ c h. refl
@@ -120,7 +105,7 @@ module _ (n : SystemNet) where
 
       by_lack : (o : Option ℕ) → IsFirst (lacks n f x) cells o → opens n f ≡ true → Found (next n f x) fs (run_to n (next n f x) fs) → Found x (f ∷ fs) (unless o (run_to n (next n f x) fs))
       by_lack (Some c) g e r = tt
-      by_lack None g e r = let o = opened n f e in onward (run_to n (next n f x) fs) (fires f x (next n f x) o.0 o.1 (enough n f x x (λ c h. refl) g) (λ c h. refl)) r
+      by_lack None g e r = onward (run_to n (next n f x) fs) (record { enabled = able n f x x (λ c h. refl) (opened n f e) g; new = λ c h. refl }) r
 
       by_open : (b : Bool) → opens n f ≡ b → Found (next n f x) fs (run_to n (next n f x) fs) → Found x (f ∷ fs) (cond b (unless (first (lacks n f x) cells) (run_to n (next n f x) fs)) None)
       by_open false e r = tt
@@ -131,7 +116,7 @@ module _ (n : SystemNet) where
   Alone b None = Unit {0}
   Alone b (Some y) = Alike b y
 
-  alone : (x a b : Marking) (fs : List Firing) → Alike a x → Run n a (map pair fs) b → Alone b (run_to n x fs)
+  alone : (x a b : Marking) (fs : List Firing) → Alike a x → Run n a fs b → Alone b (run_to n x fs)
   alone x a b [] same r = λ c h. sym (r c h) ∙ same c h
   alone x a b (f ∷ fs) same r = by_open (opens n f) (alone (next n f x) r.0 b fs (λ c h. r.1.0.new c h ∙ after n f a x same c h) r.1.1)
     where
@@ -151,43 +136,47 @@ module _ (n : SystemNet) (f : Firing) (l : Lent) where
   led_is : (k c : ℕ) → c < k → get_or (led k) c 0 ≡ next n f (marking l) c
   led_is k c h = get_or-map-range_with_len (next n f (marking l)) 0 k c c 0 h (zero-add c)
 
-  goes_on : Open n f → length f.mode ≡ 4 → Nowhere (Lacking n f (marking l)) → (k : Lent) × FireCalled n f l k (Ok tt)
-  goes_on o four g =
+  goes_on : Enabled n f.transition f.mode (marking l) → (k : Lent) × FireCalled n f l k (Ok tt)
+  goes_on e =
       let k : Lent = record { counts = led cells; trail = l.trail ++ f ∷ []; memory = slice_set l.memory (length l.trail) f } in
-      (k, record { fires = fires n f (marking l) (marking k) o four g (led_is cells); trail = refl; memory = refl })
+      (k, record { fires = record { enabled = e; new = led_is cells }; trail = refl; memory = refl })
 
 module _ (n : SystemNet) (f : Firing) (l : Lent) where
   -- what a call can answer where the transition is open and the trail has room
   data Case : Result (Unit {0}) Fault → Type 0 where
-    goes : {u : Unit {0}} → Nowhere (Lacking n f (marking l)) → Case (Ok u)
+    goes : {u : Unit {0}} → Enabled n f.transition f.mode (marking l) → Case (Ok u)
     lacking : {c : ℕ} → Lowest (Lacking n f (marking l)) c → Case (Err (fault.Lacks c))
-    filled : {c : ℕ} → Nowhere (Lacking n f (marking l)) → Lowest (Passing n f (marking l)) c → Case (Err (fault.Full c))
+    filled : {c : ℕ} → Enabled n f.transition f.mode (marking l) → Lowest (Passing n f (marking l)) c → Case (Err (fault.Full c))
 
-  case_of : Open n f → length l.trail < length l.memory → (k : Lent) (r : Result (Unit {0}) Fault) → FireCalled n f l k r → Case r
-  case_of o room k (Ok u) a = goes (λ c h p. let e = a.fires.enough c h in omega arith)
+  case_of : Open n f.transition f.mode → length l.trail < length l.memory → (k : Lent) (r : Result (Unit {0}) Fault) → FireCalled n f l k r → Case r
+  case_of o room k (Ok u) a = goes a.fires.enabled
   case_of o room k (Err fault.NoTransition) a = let h = a.0 in let g = o.there in absurd (omega arith)
   case_of o room k (Err fault.Mode) a = absurd (a.0.1 o.mode)
   case_of o room k (Err fault.Guard) a = absurd (true≢false (sym o.guard ∙ a.0.2))
   case_of o room k (Err (fault.Lacks c)) a = lacking a.0.1
-  case_of o room k (Err (fault.Full c)) a = filled a.0.1 a.0.2
+  case_of o room k (Err (fault.Full c)) a = filled a.0.0 a.0.1
   case_of o room k (Err fault.TrailFull) a = let e = a.0.2 in absurd (omega arith)
   case_of o room k (Err e) a = absurd a.0
 
+  -- where a firing is enabled, no cell lacks tokens
+  able_lacks : {P : Type 0} (c : ℕ) → Enabled n f.transition f.mode (marking l) → Lowest (Lacking n f (marking l)) c → P
+  able_lacks c e w = let g = e.enough c w.within in let h = w.here in absurd (omega (arith, g, h))
+
   -- where a cell lacks tokens, the lowest such cell is named
   lacking_only : (c : ℕ) (r : Result (Unit {0}) Fault) → Lowest (Lacking n f (marking l)) c → Case r → refusal (fault.Lacks c) ≡ fire_shown r
-  lacking_only c r w (goes g) = absurd (g c w.within w.here)
+  lacking_only c r w (goes g) = able_lacks c g w
   lacking_only c r w (lacking {c = e} v) = ap (λ (x : ℕ). refusal (fault.Lacks x)) (order c e (λ h. v.lower c h w.here) (λ h. w.lower e h v.here))
-  lacking_only c r w (filled g v) = absurd (g c w.within w.here)
+  lacking_only c r w (filled g v) = able_lacks c g w
 
-  -- where none lacks tokens or would hold too many, it fires
-  fired_only : (r : Result (Unit {0}) Fault) → Nowhere (Lacking n f (marking l)) → Nowhere (Passing n f (marking l)) → Case r → fired ≡ fire_shown r
+  -- where it is enabled and no cell would hold too many, it fires
+  fired_only : (r : Result (Unit {0}) Fault) → Enabled n f.transition f.mode (marking l) → Nowhere (Passing n f (marking l)) → Case r → fired ≡ fire_shown r
   fired_only r g h (goes u) = refl
-  fired_only r g h (lacking v) = absurd (g _ v.within v.here)
+  fired_only r g h (lacking v) = able_lacks _ g v
   fired_only r g h (filled u v) = absurd (h _ v.within v.here)
 
 -- the answer computed is the answer
 module _ (n : SystemNet) (fs : List Firing) (f : Firing) where
-  module _ (o : Open n f) (four : length f.mode ≡ 4) (x : Marking) (run : Leads n fs x) (same : (y : Marking) → Leads n fs y → Alike y x) where
+  module _ (o : Open n f.transition f.mode) (x : Marking) (run : Leads n fs x) (same : (y : Marking) → Leads n fs y → Alike y x) where
     at : (y : Marking) (l : Lent) → Leads n fs y → StandsAt y l → Alike (marking l) x
     at y l r s c h = s.marked c h ∙ same y r c h
 
@@ -200,8 +189,8 @@ module _ (n : SystemNet) (fs : List Firing) (f : Firing) where
     replied_sound None (Some c) g h = tt
     replied_sound None None g h = record {
       leads = (x, run);
-      some = λ y l r s. let k = goes_on n f l o four (enough n f (marking l) x (at y l r s) g) in (k.0, (Ok tt, (k.1, refl)));
-      only = λ y l k r u s a. fired_only n f l r (enough n f (marking l) x (at y l u s) g) (room n f (marking l) x (at y l u s) h) (case_of n f l o s.room k r a);
+      some = λ y l r s. let k = goes_on n f l (able n f (marking l) x (at y l r s) o g) in (k.0, (Ok tt, (k.1, refl)));
+      only = λ y l k r u s a. fired_only n f l r (able n f (marking l) x (at y l u s) o g) (room n f (marking l) x (at y l u s) h) (case_of n f l o s.room k r a);
     }
 
   pub replying_sound : Sound (Replies n fs f) (replying n fs f)
@@ -210,8 +199,7 @@ module _ (n : SystemNet) (fs : List Firing) (f : Firing) where
       by_run : (p : Option Marking) → Found n (initial n) fs p → ((y : Marking) → Leads n fs y → Alone n y p) → opens n f ≡ true → Sound (Replies n fs f) (reply n f p)
       by_run None r s e = tt
       by_run (Some x) r s e =
-          let o = opened n f e in
-          replied_sound o.0 o.1 x r s (first (lacks n f x) cells) (first (passes n f x) cells) (first_is (lacks n f x) cells) (first_is (passes n f x) cells)
+          replied_sound (opened n f e) x r s (first (lacks n f x) cells) (first (passes n f x) cells) (first_is (lacks n f x) cells) (first_is (passes n f x) cells)
 
       by_open : (b : Bool) → opens n f ≡ b → Sound (Replies n fs f) (cond b (reply n f (run_to n (initial n) fs)) None)
       by_open false e = tt

@@ -1,9 +1,9 @@
 -- Judging, computed: the verdict is one that the relation has, and every verdict that it has shows the same answer.
 use Rattle.std.proofs.Common.{◌≡◌, ℕ, zero, suc, ◌+◌, ◌<◌, Bool, true, false, not, ◌&&◌, List, length, ℤ, Some, None, Ok, Err, Option, sym, refl, ap, ◌∙◌, subst, true≢false, add-one, arith, below_more}
 use Rattle.domain.specs.Meaning.{Laws, Meaning, Tells}
-use Rattle.net.specs.Nets.{given, guard_holds, taken}
+use Rattle.net.specs.Nets.{given, guard_holds, mode, modes_of, taken}
 use Rattle.net.specs.System.{SystemNet}
-use Rattle.judge.specs.Judged.{First, Judged, Kept, KeptAll, Verdict, after, before, firing, mode, modes_of, number}
+use Rattle.judge.specs.Judged.{First, Judged, Kept, KeptAll, Verdict, after, before, true_modes, true_modes_to}
 use Rattle.judge.specs.Kinds.{Outcome}
 use Rattle.judge.specs.declared.verdict.Breach.{Breach}
 use Rattle.worked.specs.Rows.{broken, verdict_shown}
@@ -33,7 +33,7 @@ module _ {V : Type 0} (d : Meaning V) (rel : V → V → Bool) (codes : List ℤ
 
   -- c modes of the transitions before k are accepted
   abbrev over : ℕ → ℕ → Option ℕ → Verdict V
-  over k c None = Ok (c + firing n k (modes_of n k))
+  over k c None = Ok (c + true_modes n k (modes_of n k))
   over k c (Some i) = Err (breach k i)
 
   abbrev onward : ℕ → Verdict V → Verdict V
@@ -80,17 +80,17 @@ module _ {V : Type 0} {d : Meaning V} (l : Laws d) (rel : V → V → Bool) (tel
 
   -- the answer for the first k transitions
   abbrev JudgedTo : ℕ → Verdict V → Type 0
-  JudgedTo k (Ok c) = (c ≡ number n k) × KeptAll d codes n k
+  JudgedTo k (Ok c) = (c ≡ true_modes_to n k) × KeptAll d codes n k
   JudgedTo k (Err x) = (x.firing.transition < k) × KeptAll d codes n x.firing.transition × First d codes n x.firing.transition x.firing.mode x.before x.after
 
   judged_to : (k : ℕ) → JudgedTo k (verdict_to d rel codes n k)
-  unfolding number
+  unfolding true_modes_to
   judged_to zero = (refl, λ t h. let z : ⊥ = omega arith in elim z [ ])
   judged_to (suc k) = step (verdict_to d rel codes n k) (judged_to k)
     where
-      ends : (c : ℕ) (o : Option ℕ) → (c ≡ number n k) × KeptAll d codes n k → IsFirst (breaks d rel codes n k) (modes_of n k) o → JudgedTo (suc k) (over d rel codes n k c o)
+      ends : (c : ℕ) (o : Option ℕ) → (c ≡ true_modes_to n k) × KeptAll d codes n k → IsFirst (breaks d rel codes n k) (modes_of n k) o → JudgedTo (suc k) (over d rel codes n k c o)
       ends c None (is, all) fails =
-          (ap (λ (x : ℕ). x + firing n k (modes_of n k)) is, subst (λ (x : ℕ). KeptAll d codes n x) (add-one k) (below_more _ k all (kept k (modes_of n k) fails)))
+          (ap (λ (x : ℕ). x + true_modes n k (modes_of n k)) is, subst (λ (x : ℕ). KeptAll d codes n x) (add-one k) (below_more _ k all (kept k (modes_of n k) fails)))
       ends c (Some i) (is, all) (h, holds, fails) =
           let s = both (guard_holds n k (mode n k i)) (keeps d rel codes n k (mode n k i)) holds in
           (omega arith, all, record { index = i; within = h; is = refl; fires = s.0; before_is = refl; after_is = refl; apart = apart k (mode n k i) s.1; earlier = kept k i fails })

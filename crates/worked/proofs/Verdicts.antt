@@ -11,10 +11,10 @@ use Rattle.term.specs.declared.fault.Fault.{Fault}
 use Rattle.term.specs.declared.fault.Fault.TheVariants as fault
 use Rattle.net.specs.Nets.{claim_of, codes_of, given, taken}
 use Rattle.net.specs.System.{SystemNet}
-use Rattle.judge.specs.Calls.{AllWeigh, Called, Fits, Left, Memory, none}
+use Rattle.judge.specs.Calls.{AllWeigh, Fits, JudgeCalled, Left, Memory, no_tokens}
 use Rattle.judge.specs.Judged.{Judged, Verdict}
-use Rattle.judge.specs.Kinds.{By, ByKind, Outcome}
-use Rattle.judge.proofs.Markings.{exactly, keeps, right}
+use Rattle.judge.specs.Kinds.{ByItsKind, ByKind, KindCalled, Outcome}
+use Rattle.judge.proofs.Markings.{exactly, keeps}
 use Rattle.worked.specs.Rows.{Answer, Shows, verdict_shown}
 use Rattle.worked.proofs.Decided.{Values, domain_of, laws_of, related, related_tells}
 use Rattle.worked.proofs.Judging.{judged, only_one, verdict, outcome_of}
@@ -72,7 +72,7 @@ tallied k m c h = get_or-map-range_with_len m 0 k c c 0 h (zero-add c)
 
 -- what judging leaves in the counts
 left : {V : Type 0} (n : SystemNet) (v : Verdict V) → (b : List ℕ) × ((a : List ℕ) × Left n v b a)
-left n (Ok c) = (none, (none, (refl, refl)))
+left n (Ok c) = (no_tokens, (no_tokens, (refl, refl)))
 left n (Err x) =
     let t = taken n x.firing.transition x.firing.mode in
     let g = given n x.firing.transition x.firing.mode in
@@ -81,9 +81,8 @@ left n (Err x) =
 -- a claim of which all codes are weights, a verdict on it, and memory
 module _ {V : Type 0} {d : Meaning V} (laws : Laws d) (n : SystemNet) (claim : ℕ) (there : claim < length n.claims) (long : length (codes_of n claim) ≡ 1024) (all : AllWeigh d (codes_of n claim)) (v : Verdict V) (j : Judged d (codes_of n claim) n v) (m : Memory) (fits : Fits m) where
   -- the call can answer the verdict
-  pub called : (k : Memory) × Called d n claim m k (Ok v)
+  pub called : (k : Memory) × JudgeCalled d n claim m k (Ok v)
   called =
-      let so = right laws (codes_of n claim) long n v j in
       let a = left n v in (
         record { codes = codes_of n claim; before = a.0; after = a.1.0 },
         (
@@ -91,39 +90,39 @@ module _ {V : Type 0} {d : Meaning V} (laws : Laws d) (n : SystemNet) (claim : �
           there,
           refl,
           all,
-          record { judged = j; right = so; exactly = exactly laws (codes_of n claim) long n v so; keeps = keeps laws (codes_of n claim) long n v j; left = a.1.1 },
+          record { judged = j; exactly = exactly laws (codes_of n claim) long n v j; keeps = keeps laws (codes_of n claim) long n v j; left = a.1.1 },
         ),
       )
 
   -- by kind it can answer the verdict without its values
-  by_called : (k : Memory) → Called d n claim m k (Ok v) → By d n claim m k (Ok (outcome_of v))
+  by_called : (k : Memory) → JudgeCalled d n claim m k (Ok v) → KindCalled d n claim m k (Ok (outcome_of v))
   by_called k = without v
     where
-      without : (u : Verdict V) → Called d n claim m k (Ok u) → By d n claim m k (Ok (outcome_of u))
+      without : (u : Verdict V) → JudgeCalled d n claim m k (Ok u) → KindCalled d n claim m k (Ok (outcome_of u))
       without (Ok c) h = h
       without (Err x) h = (x.before, (x.after, h))
 
-  pub by_some : (k : Memory) × By d n claim m k (Ok (outcome_of v))
+  pub by_some : (k : Memory) × KindCalled d n claim m k (Ok (outcome_of v))
   by_some = (called.0, by_called called.0 called.1)
 
   -- a verdict that the call can answer is this one, but for its values
-  same_outcome : (k : Memory) (u : Verdict V) → Called d n claim m k (Ok u) → verdict_shown (Ok (outcome_of v)) ≡ verdict_shown (Ok (outcome_of u))
+  same_outcome : (k : Memory) (u : Verdict V) → JudgeCalled d n claim m k (Ok u) → verdict_shown (Ok (outcome_of v)) ≡ verdict_shown (Ok (outcome_of u))
   same_outcome k u c = only_one d (codes_of n claim) n v u j (subst (λ (x : List ℤ). Judged d x n u) c.2 c.4.judged)
 
   -- and no fault
-  never_refused : (k : Memory) (e : Fault) → Called d n claim m k (Err e) → ⊥
+  never_refused : (k : Memory) (e : Fault) → JudgeCalled d n claim m k (Err e) → ⊥
   never_refused k fault.Memory c = c.0 fits
-  never_refused k fault.NoClaim c = let h = c.1 in let z : ⊥ = omega arith in z
+  never_refused k fault.NoClaim c = let h = c.0.1 in let z : ⊥ = omega arith in z
   never_refused k fault.NoWeight c = c.3 (subst (AllWeigh d) (sym c.2) all)
   never_refused k e c = absurd c
 
-  by_only : (k : Memory) (r : Result Outcome Fault) → By d n claim m k r → verdict_shown (Ok (outcome_of v)) ≡ verdict_shown r
+  by_only : (k : Memory) (r : Result Outcome Fault) → KindCalled d n claim m k r → verdict_shown (Ok (outcome_of v)) ≡ verdict_shown r
   by_only k (Ok (Ok c)) b = same_outcome k (Ok c) b
   by_only k (Ok (Err f)) b = same_outcome k (Err (record { firing = f; before = b.0; after = b.1.0 })) b.1.1
   by_only k (Err e) b = absurd (never_refused k e b)
 
 -- judging by kind is judging under the kind's domain
-by_kind : (x : Kind) (n : SystemNet) (claim : ℕ) (m k : Memory) (r : Result Outcome Fault) → ByKind x n claim m k r ≡ By (domain_of x) n claim m k r
+by_kind : (x : Kind) (n : SystemNet) (claim : ℕ) (m k : Memory) (r : Result Outcome Fault) → ByKind x n claim m k r ≡ KindCalled (domain_of x) n claim m k r
 by_kind kind.Equal n claim m k r = refl
 by_kind kind.NeverRises n claim m k r = refl
 by_kind kind.NeverFalls n claim m k r = refl
@@ -131,19 +130,19 @@ by_kind (kind.Modulo z) n claim m k r = refl
 by_kind kind.Trap n claim m k r = refl
 by_kind kind.Siphon n claim m k r = refl
 
--- a contract that is D for the claim's kind: the answer is that of a result which D allows, where all that D allows show it
-pub shows : {R : Type 0} (C : Kind → Memory → Memory → Result R Fault → Type 0) (shown : Result R Fault → Answer) (n : SystemNet) (claim : ℕ) → claim < length n.claims
-    → (D : Memory → Memory → Result R Fault → Type 0) → ((m k : Memory) (r : Result R Fault) → C (kind_at n claim) m k r ≡ D m k r)
+-- a contract that is D: the answer is that of a result which D allows, where all that D allows show it
+pub shows : {R : Type 0} (C : Memory → Memory → Result R Fault → Type 0) (shown : Result R Fault → Answer)
+    → (D : Memory → Memory → Result R Fault → Type 0) → ((m k : Memory) (r : Result R Fault) → C m k r ≡ D m k r)
     → (r : Result R Fault) → ((m : Memory) → Fits m → (k : Memory) × D m k r) → ((m k : Memory) (s : Result R Fault) → Fits m → D m k s → shown r ≡ shown s)
-    → Shows C shown n claim (shown r)
-shows C shown n claim there D same r some only = record {
-  some = λ m fits. let k = some m fits in (kind_at n claim, (record { there = there; is = refl }, (k.0, (r, (transport (sym (same m k.0 r)) k.1, refl)))));
-  only = λ y m k s is fits c. only m k s fits (transport (same m k s) (subst (λ (z : Kind). C z m k s) is.is c));
+    → Shows C shown (shown r)
+shows C shown D same r some only = record {
+  some = λ m fits. let k = some m fits in (k.0, (r, (transport (sym (same m k.0 r)) k.1, refl)));
+  only = λ m k s fits c. only m k s fits (transport (same m k s) c);
 }
 
 -- what a claim's answer is to be
 abbrev pub Judging : SystemNet → ℕ → Answer → Type 0
-Judging n claim a = Shows (λ x m k r. ByKind x n claim m k r) verdict_shown n claim a
+Judging n claim a = Shows (ByItsKind n claim) verdict_shown a
 
 -- the answer computed is the answer
 pub judging_sound : (n : SystemNet) (claim : ℕ) → Sound (Judging n claim) (judging n claim)
@@ -155,7 +154,7 @@ judging_sound n claim = by_claim (ltb claim (length n.claims)) refl
         let v = verdict_by n claim x in
         let j = verdict_judged n claim x in
         let f = weights_are n claim x e in
-        shows (λ z m k r. ByKind z n claim m k r) verdict_shown n claim h (λ m k r. By (domain_of x) n claim m k r)
+        shows (ByItsKind n claim) verdict_shown (KindCalled (domain_of x) n claim)
         (λ m k r. ap (λ (z : Kind). ByKind z n claim m k r) (sym is) ∙ by_kind x n claim m k r)
         (Ok (outcome_of v))
         (λ m fits. by_some (laws_of x) n claim h f.0 f.1 v j m fits)

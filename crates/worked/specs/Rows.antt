@@ -1,22 +1,19 @@
 -- Rows of worked examples: a file, what is asked of it, and the answer; and what such a row claims, by the definitions
 -- that the contracts of reading, judging, caps and firing name.
-use Rattle.std.specs.Prelude.{◌≡◌, ℕ, ◌<◌, List, length, map, Option, Some, None, Ok, Err, Result}
-use Rattle.domain.specs.declared.kind.Kind.{Kind}
+use Rattle.std.specs.Prelude.{◌≡◌, ℕ, ◌<◌, List, length, Option, Some, None, Ok, Err, Result}
 use Rattle.term.specs.Faults.{number_of}
 use Rattle.term.specs.Worth.{Marking}
 use Rattle.term.specs.declared.fault.Fault.{Fault}
 use Rattle.term.specs.declared.fault.FileFault.{FileFault}
 use Rattle.term.specs.declared.fault.Stage.{Stage}
-use Rattle.net.specs.Nets.{IsKind}
-use Rattle.net.specs.Reading.{Told, arc_count, told}
-use Rattle.net.specs.Runs.{Run, initial}
-use Rattle.net.specs.System.{SystemNet}
+use Rattle.net.specs.Reading.{Told, told}
+use Rattle.net.specs.Runs.{Alike, Run, initial}
+use Rattle.net.specs.System.{SystemNet, arc_count}
 use Rattle.net.specs.declared.firing.Firing.{Firing}
 use Rattle.judge.specs.Calls.{Fits, Memory}
-use Rattle.judge.specs.Caps.{AskedByKind}
-use Rattle.judge.specs.Kinds.{ByKind, Outcome}
+use Rattle.judge.specs.Caps.{AskedByItsKind}
+use Rattle.judge.specs.Kinds.{ByItsKind, Outcome}
 use Rattle.bench.specs.Calls.{FireCalled, Lent, marking}
-use Rattle.bench.specs.Path.{Alike}
 
 -- what is asked: whether the file reads; the verdict on a claim; the cap of a cell by a claim; or what a firing does,
 -- after other firings from the initial marking
@@ -68,18 +65,15 @@ abbrev pub fire_shown : Result (Unit {0}) Fault → Answer
 fire_shown (Ok u) = fired
 fire_shown (Err e) = refusal e
 
--- the answer of a call on a claim, of whose kind the contract of the call says C: from any memory that fits, C allows a
--- result that shows the answer, and no result that shows another
-pub record Shows {R : Type 0} (C : Kind → Memory → Memory → Result R Fault → Type 0) (shown : Result R Fault → Answer) (n : SystemNet) (claim : ℕ) (a : Answer) : Type 0 where
-  pub some : (m : Memory) → Fits m → (x : Kind) × (IsKind n claim x × ((k : Memory) × ((r : Result R Fault) × (C x m k r × (a ≡ shown r)))))
-  pub only : (x : Kind) (m k : Memory) (r : Result R Fault) → IsKind n claim x → Fits m → C x m k r → a ≡ shown r
-
-abbrev pub pair : Firing → ℕ × List ℕ
-pair f = (f.transition, f.mode)
+-- the answer of a call whose contract says C: from any memory that fits, C allows a result that shows the answer, and no
+-- result that shows another
+pub record Shows {R : Type 0} (C : Memory → Memory → Result R Fault → Type 0) (shown : Result R Fault → Answer) (a : Answer) : Type 0 where
+  pub some : (m : Memory) → Fits m → (k : Memory) × ((r : Result R Fault) × (C m k r × (a ≡ shown r)))
+  pub only : (m k : Memory) (r : Result R Fault) → Fits m → C m k r → a ≡ shown r
 
 -- the firings lead, one after the other, from the initial marking to this one
 abbrev pub Leads : SystemNet → List Firing → Marking → Type 0
-Leads n fs x = Run n (initial n) (map pair fs) x
+Leads n fs x = Run n (initial n) fs x
 
 -- the memory of a bench that stands at a marking, with room on its trail
 pub record StandsAt (x : Marking) (l : Lent) : Type 0 where
@@ -97,8 +91,8 @@ pub record Replies (n : SystemNet) (fs : List Firing) (f : Firing) (a : Answer) 
 abbrev pub Answers : Told → Question → Answer → Type 0
 Answers (Err e) q a = a ≡ fault_shown e
 Answers (Ok n) read a = a ≡ net_shown n
-Answers (Ok n) (judge claim) a = Shows (λ x m k r. ByKind x n claim m k r) verdict_shown n claim a
-Answers (Ok n) (cap claim cell) a = Shows (λ x m k r. AskedByKind x n claim cell m k r) cap_shown n claim a
+Answers (Ok n) (judge claim) a = Shows (ByItsKind n claim) verdict_shown a
+Answers (Ok n) (cap claim cell) a = Shows (AskedByItsKind n claim cell) cap_shown a
 Answers (Ok n) (fire fs f) a = Replies n fs f a
 
 -- a row holds

@@ -10,7 +10,7 @@ use super::Bench;
 use crate::counts::Counts;
 use crate::moves::{back_on, begin_on, fire_on};
 use domain::{Measuring, WeightDomain};
-use lent::list::LentList;
+use lent::LentList;
 use net::{Firing, Net};
 use term::Fault;
 

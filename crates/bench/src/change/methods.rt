@@ -23,7 +23,7 @@ fn counted(net: &Net, f: Firing, takes: Direction, puts: Direction) -> Change
 
 impl Change {
     // The change that a firing makes.
-    pub fn of(net: &Net, f: Firing) -> Change
+    pub(crate) fn of(net: &Net, f: Firing) -> Change
         ensures takes { Counted result.takes (taken (system net.now) f.transition f.mode) }
         ensures puts { Counted result.puts (given (system net.now) f.transition f.mode) }
     {
@@ -31,7 +31,7 @@ impl Change {
     }
 
     // The change that undoes a firing.
-    pub fn undoing(net: &Net, f: Firing) -> Change
+    pub(crate) fn undoing(net: &Net, f: Firing) -> Change
         ensures takes { Counted result.takes (given (system net.now) f.transition f.mode) }
         ensures puts { Counted result.puts (taken (system net.now) f.transition f.mode) }
     {

@@ -1,6 +1,6 @@
-ghost use Rattle.std.specs.Prelude.{◌≡◌, ℕ, ◌-◌, min, ◌^◌, ◌<◌, ◌≤◌, length, Some, None, Ok, Err, ◌≢◌, slice_index};
+ghost use Rattle.std.specs.Prelude.{◌≡◌, ℕ, min, ◌<◌, ◌≤◌, length, Some, None, Ok, Err, ◌≢◌, slice_index};
 ghost use Rattle.term.specs.declared.fault.Fault.TheVariants.{Memory};
-ghost use Rattle.bench.specs.Counted.{changed, loan, tokens};
+ghost use Rattle.bench.specs.Counted.{changed, largest_count, loan, tokens};
 
 use super::Counts;
 use crate::change::Change;
@@ -10,7 +10,7 @@ use term::Fault;
 // Memory of another length gets a fault, before a bench is begun on it. It stands beside what the judge and recordings
 // ask of theirs: one shared test of one comparison would be no shorter.
 pub fn measure(cells: &[u16]) -> Result<(), Fault>
-    ensures { elim result [ Ok _ ↦ length cells.now ≡ 1024 | Err e ↦ (length cells.now ≢ 1024) × (e ≡ Memory) ] }
+    ensures { elim result [ Ok _ ↦ length cells.now ≡ CELLS | Err e ↦ (length cells.now ≢ CELLS) × (e ≡ Memory) ] }
 {
     if cells.len() == CELLS {
         Ok(())
@@ -20,14 +20,6 @@ pub fn measure(cells: &[u16]) -> Result<(), Fault>
 }
 
 impl<'c> Counts<'c> {
-    // Counts in memory that is measured here; memory of another length gets a fault.
-    pub fn new(cells: &'c mut [u16]) -> Result<Counts<'c>, Fault>
-        ensures { elim result [ Ok k ↦ (length cells.old ≡ 1024) × (k.cells.now ≡ cells.old) × (loan k ≡ cells.entry.ghost_name) | Err e ↦ (length cells.old ≢ 1024) × (e ≡ Memory) ] }
-    {
-        measure(cells)?;
-        Ok(Counts { cells })
-    }
-
     // The count of a cell, 0 past the last.
     pub fn at(&self, c: usize) -> u16
         ensures { result ≡ tokens self.now c }
@@ -37,7 +29,7 @@ impl<'c> Counts<'c> {
 
     // The lowest cell that has less than is to be taken.
     pub(crate) fn lacking(&self, change: &Change) -> Option<usize>
-        ensures { elim result [ Some c ↦ (c < 1024) × (tokens self.now c < slice_index change.now.takes c) × ((k : ℕ) → k < c → slice_index change.now.takes k ≤ tokens self.now k) | None ↦ ((k : ℕ) → k < 1024 → slice_index change.now.takes k ≤ tokens self.now k) ] }
+        ensures { elim result [ Some c ↦ (c < CELLS) × (tokens self.now c < slice_index change.now.takes c) × ((k : ℕ) → k < c → slice_index change.now.takes k ≤ tokens self.now k) | None ↦ ((k : ℕ) → k < CELLS → slice_index change.now.takes k ≤ tokens self.now k) ] }
     {
         self.cells
             .iter()
@@ -47,7 +39,7 @@ impl<'c> Counts<'c> {
 
     // The lowest cell that would pass 65,535 once the tokens are taken and put.
     pub(crate) fn passing(&self, change: &Change) -> Option<usize>
-        ensures { elim result [ Some c ↦ (c < 1024) × (2 ^ 16 ≤ changed self.now change.now c) × ((k : ℕ) → k < c → changed self.now change.now k < 2 ^ 16) | None ↦ ((k : ℕ) → k < 1024 → changed self.now change.now k < 2 ^ 16) ] }
+        ensures { elim result [ Some c ↦ (c < CELLS) × (largest_count < changed self.now change.now c) × ((k : ℕ) → k < c → changed self.now change.now k ≤ largest_count) | None ↦ ((k : ℕ) → k < CELLS → changed self.now change.now k ≤ largest_count) ] }
     {
         self.cells
             .iter()
@@ -60,7 +52,7 @@ impl<'c> Counts<'c> {
 
     // Makes a change of the counts; what passes 65,535 is held at it.
     pub(crate) fn shift(&mut self, change: &Change)
-        ensures shifted { (k : ℕ) → k < 1024 → tokens self.new k ≡ min (changed self.old change.now k) (2 ^ 16 - 1) }
+        ensures shifted { (k : ℕ) → k < CELLS → tokens self.new k ≡ min (changed self.old change.now k) largest_count }
         ensures loan { loan self.new ≡ loan self.old }
     {
         // over a zip of `iter_mut`, a proof knows nothing of the cells
@@ -72,8 +64,8 @@ impl<'c> Counts<'c> {
 
     // Makes the counts those of a marking.
     pub(crate) fn reset(&mut self, start: &[u16; CELLS])
-        ensures value { (k : ℕ) → k < 1024 → tokens self.new k ≡ slice_index start.now k }
-        ensures small { (k : ℕ) → k < 1024 → tokens self.new k < 2 ^ 16 }
+        ensures value { (k : ℕ) → k < CELLS → tokens self.new k ≡ slice_index start.now k }
+        ensures small { (k : ℕ) → k < CELLS → tokens self.new k ≤ largest_count }
         ensures loan { loan self.new ≡ loan self.old }
     {
         self.cells.copy_from_slice(start);

@@ -3,10 +3,9 @@ ghost use Rattle.std.specs.Prelude.{◌≡◌, ◌≢◌, ℕ, ◌/◌, ◌<◌,
 ghost use Rattle.term.specs.Meaning.{of};
 ghost use Rattle.term.specs.Worth.{value_of};
 ghost use Rattle.domain.specs.Meaning.{Tells};
-ghost use Rattle.format.specs.Format.{mode_count};
-ghost use Rattle.net.specs.Nets.{ExactlyTallied, HasCell, IsKind, Mode, Tallied, arcs_of, codes_of, digit, given, guard_holds, largest_side, mode_of, side, taken, transition};
+ghost use Rattle.net.specs.Nets.{ExactlyTallied, HasCell, IsKind, Mode, Tallied, arcs_of, codes_of, digit, given, guard_holds, largest_side, mode, mode_of, modes_of, side, taken, transition};
 ghost use Rattle.net.specs.Of.{system};
-ghost use Rattle.net.specs.Spans.{arc_told};
+ghost use Rattle.net.specs.System.{arc_told};
 
 use super::{CELLS, Net};
 use crate::firing::Firing;
@@ -106,14 +105,14 @@ impl Net {
 
     // How many modes a transition has.
     pub fn modes(&self, t: usize) -> u32
-        ensures { result ≡ mode_count (transition (system self.now) t).sizes }
+        ensures { result ≡ modes_of (system self.now) t }
     {
         self.parts.transition(t).map_or(0, |t| modes(t.sizes))
     }
 
     // The mode number `i` of a transition, the last variable fastest.
     pub fn mode(&self, t: usize, i: u32) -> [u8; 4]
-        ensures { result ≡ mode_of (transition (system self.now) t).sizes i }
+        ensures { result ≡ mode (system self.now) t i }
     {
         // no `map_or`: its proof stays open
         let Some(t) = self.parts.transition(t) else {

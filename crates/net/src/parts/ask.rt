@@ -2,8 +2,7 @@
 ghost use Rattle.std.specs.Prelude.{◌≡◌, map, option_map, MatchOption};
 ghost use Rattle.format.specs.Format.{place_size};
 ghost use Rattle.net.specs.Nets.{transition};
-ghost use Rattle.net.specs.Spans.{arc_told, towards};
-ghost use Rattle.net.specs.System.{no_transition, told_by, transition_told};
+ghost use Rattle.net.specs.System.{arc_told, no_transition, told_by, towards, transition_told};
 
 use super::{Arc, Parts, Transition};
 use format::{Direction, place_size};

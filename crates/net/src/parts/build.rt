@@ -1,13 +1,11 @@
 // The parts of a net as it is read, command by command.
 ghost use Rattle.std.specs.Prelude.{◌≡◌, ◌-◌, ◌^◌, min, IfOk, OnOk, slice_set, vec_items};
-ghost use Rattle.domain.specs.Kinds.{kind_modulus, kind_number};
 ghost use Rattle.term.specs.Meaning.{of};
-ghost use Rattle.format.specs.Commands.{arc, arity, bag_operation, claim, element_weight, first, guard, operation, place_weight, said_of, second, tokens, transition};
+ghost use Rattle.format.specs.Commands.{arc, bag_operation, claim, element_weight, guard, operation, place_weight, said_of, tokens, transition};
 ghost use Rattle.format.specs.Format.{setting_of};
 ghost use Rattle.net.specs.Nets.{no_claim};
-ghost use Rattle.net.specs.Reading.{add, arc_count, arcs_in, coded, empty, full, guarded, linked, newest, setting, unweighted};
-ghost use Rattle.net.specs.Spans.{arc_told};
-ghost use Rattle.net.specs.System.{no_transition, told_by, transition_told};
+ghost use Rattle.net.specs.Reading.{add, coded, empty, full, guarded, linked, newest, setting, unweighted};
+ghost use Rattle.net.specs.System.{arc_count, arc_told, arcs_in, no_transition, told_by, transition_told};
 
 use super::{Arc, Claim, Parts, Transition};
 use crate::net::CELLS;
@@ -178,7 +176,7 @@ impl Parts {
         res: u8,
         table: &[u8],
     ) -> Result<(), AllocError>
-        ensures { OnOk result (told_by self.new ≡ add (told_by self.old) (operation (arity arguments) (first arguments) (second arguments) res table.now)) }
+        ensures { OnOk result (told_by self.new ≡ add (told_by self.old) (operation arguments res table.now)) }
     {
         let heap = *self.operations.allocator();
         self.operations.push(Operation {
@@ -241,7 +239,7 @@ impl Parts {
     }
 
     fn add_claim(&mut self, kind: Kind) -> Result<(), AllocError>
-        ensures { OnOk result (told_by self.new ≡ add (told_by self.old) (claim (kind_number kind) (kind_modulus kind))) }
+        ensures { OnOk result (told_by self.new ≡ add (told_by self.old) (claim kind)) }
     {
         self.claims.push(Claim::new(kind))?;
         Ok(())

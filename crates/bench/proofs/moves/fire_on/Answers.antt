@@ -1,9 +1,9 @@
-use Rattle.std.proofs.Common.{◌≡◌, length, sym, refl, ap, rules}
+use Rattle.std.proofs.Common.{sym, refl, ap}
 use Rattle.std.proofs.lemmas.Result.{err_from_is_err_and}
 use Rattle.net.specs.Runs.{Fires}
 use Rattle.bench.specs.Calls.{FireCalled, lent}
 use Rattle.bench.specs.Counted.{tokens}
-use Rattle.bench.proofs.Fired.{fires, never-full, refused, roomy, small-after, unheld}
+use Rattle.bench.proofs.Fired.{enabled, fires, never-full, refused, room, small-after, unheld}
 use Rattle.bench.proofs.Walks.{more}
 use Rattle.bench.proofs.moves.fire_on.Goals as goal
 use Rattle.net.specs.Of.{system}
@@ -19,14 +19,12 @@ returns-in_err-checked-clause-called c = why c
 
 pub returns-in_err-checked-clause-never_full : goal.returns-in_err-checked-clause-never_full
 returns-in_err-checked-clause-never_full c = λ led.
-    let four : length c.args.firing.mode ≡ 4 = search rules in
     let l = lent c.args.counts.now c.args.trail.now in
-    never-full c.args.net.now c.args.firing l l c.from_residual-in_err-checked.result four (why c) led
+    never-full c.args.net.now c.args.firing l l c.from_residual-in_err-checked.result (why c) led
 
 fired : (c : After-shift) → Fires (system c.args.net.now) c.args.firing.transition c.args.firing.mode (tokens c.args.counts.now) (tokens c.shift.new.self)
 fired c =
-    let four : length c.args.firing.mode ≡ 4 = search rules in
-    fires (system c.args.net.now) c.args.firing c.args.counts.now c.of-change.result c.of-change.ensures.takes c.of-change.ensures.puts c.in_ok-opened.ensures four c.in_ok-checked.ensures (tokens c.shift.new.self) (unheld c.args.counts.now c.of-change.result (tokens c.shift.new.self) c.shift.ensures.shifted)
+    fires (system c.args.net.now) c.args.firing c.args.counts.now c.of-change.result c.of-change.ensures.takes c.of-change.ensures.puts c.in_ok-opened.ensures c.in_ok-checked.ensures (tokens c.shift.new.self) (unheld c.args.counts.now c.of-change.result (tokens c.shift.new.self) c.shift.ensures.shifted)
 
 pub returns-in-Ok-clause-called : goal.returns-in-Ok-clause-called
 returns-in-Ok-clause-called c =
@@ -40,6 +38,10 @@ returns-in-Ok-clause-leads c = λ led.
 pub returns-in-Err-clause-called : goal.returns-in-Err-clause-called
 returns-in-Err-clause-called c =
     let h = c.in-Err.ensures.cases in (
-      (c.in_ok-opened.ensures, roomy (system c.args.net.now) c.args.firing c.args.counts.now c.of-change.result c.of-change.ensures.takes c.of-change.ensures.puts c.in_ok-checked.ensures, sym h.1),
+      (
+        enabled (system c.args.net.now) c.args.firing c.args.counts.now c.of-change.result c.of-change.ensures.takes c.of-change.ensures.puts c.in_ok-opened.ensures c.in_ok-checked.ensures,
+        room (system c.args.net.now) c.args.firing c.args.counts.now c.of-change.result c.of-change.ensures.takes c.of-change.ensures.puts c.in_ok-checked.ensures,
+        sym h.1,
+      ),
       ap (lent c.args.counts.now) h.0,
     )

@@ -1,5 +1,5 @@
 use Rattle.std.proofs.Common.{w64, SFits, rules}
-use Rattle.domain.specs.Wholes.{added}
+use Rattle.domain.proofs.Wholes.{added}
 use Rattle.domain.proofs.whole.add.Goals as goal
 
 pub returns-then-size-le-LARGEST_SUM : goal.returns-then-size-le-LARGEST_SUM

@@ -1,4 +1,4 @@
-use Rattle.domain_tests.specs.Heights.{higher, no_higher}
+use Rattle.domain_tests.proofs.Heights.{higher, no_higher}
 use Rattle.domain_tests.proofs.GreatestMeasuring.largest.Goals as goal
 
 pub returns-then-v-w-clause-plains : goal.returns-then-v-w-clause-plains

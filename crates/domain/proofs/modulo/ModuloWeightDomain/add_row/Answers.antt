@@ -17,7 +17,7 @@ weight c =
     let fits : SFits w32 code = search rules in
     simp to_z-of_z at (rw t.code at c.residue.ensures)
 
--- the row of one place more, not reduced, is small too
+-- the row of one entry more, not reduced, is small too
 grows : (c : goal.After-residue) → c.loop-count.row + c.from.result * c.residue.result ≤ 255 * 65535 * (length c.loop-count.yielded + 1)
 grows c =
     let t = here c in

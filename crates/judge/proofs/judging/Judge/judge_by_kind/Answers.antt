@@ -1,10 +1,7 @@
 use Rattle.std.proofs.Common.{rules}
-use Rattle.domain.specs.declared.kind.Kind.{Kind}
 use Rattle.domain.specs.declared.kind.Kind.TheVariants as kind
-use Rattle.net.specs.Nets.{IsKind}
-use Rattle.judge.specs.Calls.{lent, net_of}
-use Rattle.judge.specs.Kinds.{ByKind}
-use Rattle.judge.proofs.Refusals.{kind_judged, either_judged}
+use Rattle.judge.specs.Calls.{lent}
+use Rattle.judge.proofs.Refusals.{its_judged, kind_judged}
 use Rattle.judge.proofs.judging.Judge.judge_by_kind.Goals as goal
 
 pub returns-in-Some-NeverRises-clause-weighed : goal.returns-in-Some-NeverRises-clause-weighed
@@ -24,7 +21,4 @@ returns-in-Some-Siphon-clause-weighed c = kind_judged c.args.self.now.net.now c.
 
 pub returns-in-None-clause-weighed : goal.returns-in-None-clause-weighed
 returns-in-None-clause-weighed c =
-    let n = net_of c.args.self.now in
-    let r = c.outcome-in-None.result in
-    let kinds : (x : Kind) → IsKind n c.args.claim x → ByKind x n c.args.claim (lent c.args.self.now) (lent c.outcome-in-None.new.self) r = search rules in
-    either_judged c.args.self.now.net.now c.args.claim _ _ r kinds (λ h. c.outcome-in-None.ensures.by)
+    its_judged c.args.self.now.net.now c.args.claim (lent c.args.self.now) (lent c.outcome-in-None.new.self) c.outcome-in-None.result (search rules)

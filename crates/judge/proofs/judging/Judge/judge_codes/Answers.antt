@@ -1,5 +1,5 @@
 use Rattle.judge.specs.Calls.{net_of}
-use Rattle.judge.proofs.Markings.{exactly, keeps, right}
+use Rattle.judge.proofs.Markings.{exactly, keeps}
 use Rattle.judge.proofs.judging.Judge.judge_codes.Goals as goal
 
 pub returns-clause-verdict : goal.returns-clause-verdict
@@ -11,5 +11,4 @@ returns-clause-verdict g c =
     let r = c.judge_all-verdict.result in
     let long = c.requires.codes_long in
     let judged = c.judge_all-verdict.ensures in
-    let so = right law codes long n r judged in
-    record { judged = judged; right = so; exactly = exactly law codes long n r so; keeps = keeps law codes long n r judged; left = c.leave.ensures.left }
+    record { judged = judged; exactly = exactly law codes long n r judged; keeps = keeps law codes long n r judged; left = c.leave.ensures.left }

@@ -1,15 +1,15 @@
 use Rattle.std.proofs.Common.{ℕ, ◌+◌, sym, refl, ◌∙◌, subst, arith, below_none}
 use Rattle.judge.specs.Calls.{net_of}
-use Rattle.judge.proofs.Turns.{Turned, firing_few, firing_none, kept, passed}
+use Rattle.judge.proofs.Turns.{Turned, kept, passed, true_modes_few, true_modes_none}
 use Rattle.judge.proofs.judging.Judge.judge_modes.Goals as goal
 use Rattle.judge.proofs.judging.Judge.judge_modes.Goals.{then-guard+else-not-relates, else-guard}
 
 pub loop-i-init : goal.loop-i-init
-loop-i-init g c = (firing_none (net_of c.args.self.now) c.args.t, below_none _)
+loop-i-init g c = (true_modes_none (net_of c.args.self.now) c.args.t, below_none _)
 
 pub overflow_add-seen : goal.overflow_add-seen
 overflow_add-seen g c =
-    let few = firing_few (net_of c.args.self.now) c.args.t c.loop-i.i in
+    let few = true_modes_few (net_of c.args.self.now) c.args.t c.loop-i.i in
     let is = c.loop-i.invariant.0 in
     omega (arith, few, is)
 

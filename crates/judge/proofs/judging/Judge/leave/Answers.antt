@@ -1,11 +1,11 @@
 use Rattle.std.proofs.Common.{◌≡◌, ℕ, List, length, replicate, ap, ◌∙◌}
 use Rattle.net.specs.Nets.{given, taken}
 use Rattle.net.proofs.Tallied.{counted_zeros}
-use Rattle.judge.specs.Calls.{net_of, none}
+use Rattle.judge.specs.Calls.{net_of, no_tokens}
 use Rattle.judge.proofs.judging.Judge.leave.Goals as goal
 
 -- what was filled with 0 is all 0
-cleared : (xs ys : List ℕ) → ys ≡ replicate (length xs) 0 → length xs ≡ 1024 → ys ≡ none
+cleared : (xs ys : List ℕ) → ys ≡ replicate (length xs) 0 → length xs ≡ 1024 → ys ≡ no_tokens
 cleared xs ys e l = e ∙ ap (λ (k : ℕ). replicate k 0) l
 
 pub returns-in-Err-clause-left : goal.returns-in-Err-clause-left

@@ -1,8 +1,8 @@
 use Rattle.std.proofs.Common.{◌≡◌, ℕ, ◌<◌, ◌++◌, ◌∷◌, [], length, set, subst, arith, rules, length-take}
 use Rattle.lent.specs.Held.{held, memory}
 use Rattle.judge.specs.Calls.{lent, net_of}
-use Rattle.judge.specs.Surveys.{Added}
-use Rattle.judge.proofs.Refusals.{by_its_kind, refused, still_fits}
+use Rattle.judge.specs.Surveys.{AllJudged}
+use Rattle.judge.proofs.Refusals.{refused, still_fits}
 use Rattle.judge.proofs.Sheets.{added_more, added_none, still_room}
 use Rattle.judge.proofs.judging.Judge.survey.Goals as goal
 
@@ -23,7 +23,7 @@ returns-in_err-outcome-clause-surveyed c =
     let inv = c.loop-claim.invariant in
     let there : i < length n.claims = omega (arith, c.claims-claim-end.ensures) in
     absurd (refused n i (lent c.loop-claim.self) (lent c.judge_by_kind.new.self) (still_fits _ _ inv.same inv.ready.fits) there c.in_err-outcome.field-0.0
-    (by_its_kind n i _ _ _ there (rw inv.same.net at c.in_err-outcome.ensures.kinds)) c.in_err-outcome.ensures.weighed)
+    (rw inv.same.net at c.in_err-outcome.ensures.called) c.in_err-outcome.ensures.weighed)
 
 pub loop-claim-preserved : goal.loop-claim-preserved
 loop-claim-preserved c =
@@ -41,7 +41,7 @@ loop-claim-preserved c =
       named = search rules;
       ready = inv.ready;
       added = added_more n (lent c.args.self.now) c.args.sheet.now (lent c.loop-claim.self) _ s t i _ inv.added
-          (by_its_kind n i _ _ _ there (rw inv.same.net at c.in_ok-outcome.ensures.kinds)) behind written;
+          (rw inv.same.net at c.in_ok-outcome.ensures.called) behind written;
     }
 
 pub returns-clause-surveyed : goal.returns-clause-surveyed
@@ -49,4 +49,4 @@ returns-clause-surveyed c =
     let n = net_of c.args.self.now in
     let inv = c.loop-claim.invariant in
     let all : c.loop-claim.claim ≡ length n.claims = omega (arith, c.claims-claim-end.ensures) in
-    (inv.ready, subst (λ (i : ℕ). Added n (lent c.args.self.now) (lent c.loop-claim.self) c.args.sheet.now c.loop-claim.sheet i) all inv.added)
+    (inv.ready, subst (λ (i : ℕ). AllJudged n (lent c.args.self.now) (lent c.loop-claim.self) c.args.sheet.now c.loop-claim.sheet i) all inv.added)

@@ -2,11 +2,11 @@ use Rattle.std.proofs.Common.{List, map, take, ap, ◌∙◌, subst, arith, take
 use Rattle.term.specs.Meaning.{count}
 use Rattle.net.specs.Nets.{Tallied, bag_of, side}
 use Rattle.net.specs.Of.{system}
-use Rattle.net.specs.Spans.{Arc, arc_told}
 use Rattle.net.proofs.Every.{counted, few_tokens}
 use Rattle.net.proofs.Sides.{side_more}
 use Rattle.net.proofs.Tallied.{alike, more}
 use Rattle.net.proofs.net.Net.count.Goals as goal
+use Rattle.net.specs.System.{Arc, arc_told}
 
 pub loop-arc-preserved : goal.loop-arc-preserved
 loop-arc-preserved c =

@@ -1,8 +1,8 @@
 use Rattle.std.proofs.Common.{map, take}
 use Rattle.net.specs.Nets.{Tallied, side}
 use Rattle.net.specs.Of.{system}
-use Rattle.net.specs.Spans.{arc_told}
 use Rattle.net.proofs.net.Net.count.Given as goal
+use Rattle.net.specs.System.{arc_told}
 
 -- the arcs so far are counted
 abbrev pub invariant-loop-arc : goal.invariant-loop-arc

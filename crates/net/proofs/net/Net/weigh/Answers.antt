@@ -1,12 +1,13 @@
 use Rattle.std.proofs.Common.{List, map, take, refl, ap, ◌∙◌, subst, arith, take_all}
-use Rattle.term.specs.Worth.{Weighs, most}
+use Rattle.term.specs.Worth.{Weighs}
 use Rattle.term.proofs.Sums.{weighs_after, weighs_alike, weighs_nothing}
 use Rattle.net.specs.Nets.{bag_of, part, side}
 use Rattle.net.specs.Of.{system}
-use Rattle.net.specs.Spans.{Arc, arc_told}
 use Rattle.net.proofs.Loaded.{light, weighed}
 use Rattle.net.proofs.Sides.{load, load_more, side_more}
 use Rattle.net.proofs.net.Net.weigh.Goals as goal
+use Rattle.net.specs.System.{Arc, arc_told}
+use Rattle.term.specs.Meaning.{most_tokens}
 
 pub loop-arc-init : goal.loop-arc-init
 loop-arc-init g c =
@@ -28,7 +29,7 @@ loop-arc-preserved g c =
     let added = rw (c.evaluator-evaluator.ensures.signature, c.evaluator-evaluator.ensures.mode, c.as_slice.ensures.value) at c.weigh_bag.ensures.sum in
     let more = load_more items i a c.loop-arc-test.true c.arc-item.is n in
     weighs_alike law codes v.nil _ _ _ _ _ (λ k h. side_more items i a c.loop-arc-test.true c.arc-item.is n m k) (omega arith)
-    (weighs_after law codes v.nil c.loop-arc.sum _ (side n m so_far) (λ k. part n m k (arc_told a)) (load n so_far) (most (bag_of n (arc_told a))) c.loop-arc.invariant added)
+    (weighs_after law codes v.nil c.loop-arc.sum _ (side n m so_far) (λ k. part n m k (arc_told a)) (load n so_far) (most_tokens (bag_of n (arc_told a))) c.loop-arc.invariant added)
 
 pub returns : goal.returns
 returns g c =

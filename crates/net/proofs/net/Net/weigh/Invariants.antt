@@ -2,9 +2,9 @@ use Rattle.std.proofs.Common.{map, take}
 use Rattle.term.specs.Worth.{Weighs}
 use Rattle.net.specs.Nets.{side}
 use Rattle.net.specs.Of.{system}
-use Rattle.net.specs.Spans.{arc_told}
 use Rattle.net.proofs.Sides.{load}
 use Rattle.net.proofs.net.Net.weigh.Given as goal
+use Rattle.net.specs.System.{arc_told}
 
 -- the arcs so far are weighed
 abbrev pub invariant-loop-arc : goal.invariant-loop-arc

@@ -1,8 +1,7 @@
 use Rattle.std.proofs.Common.{◌≡◌, ◌-◌, ◌+◌, ◌^◌, List, min, map, sum_by, subst, refl, rules}
 use Rattle.std.proofs.lemmas.Fn.{fold_over, slice_gives, fronts}
 use Rattle.net.specs.declared.parts.Transition as parts
-use Rattle.net.specs.Reading.{arcs_in}
-use Rattle.net.specs.System.{transition_told}
+use Rattle.net.specs.System.{arcs_in, transition_told}
 use Rattle.net.proofs.Arcs.{arcs_more}
 use Rattle.net.proofs.parts.Parts.arc_count.Goals as goal
 

@@ -1,8 +1,7 @@
 use Rattle.std.proofs.Common.{◌≡◌, ◌+◌, ◌-◌, cond, eqb, get_or, take, drop, length, refl, sym, ap, ◌∙◌, arith, rules}
 use Rattle.std.proofs.lemmas.Bool.Decides.{nat_tests}
-use Rattle.term.specs.Meaning.{of, value as value_of, count, bag_operation, bag_said, copies_in, no_bag}
+use Rattle.term.specs.Meaning.{bag_operation, bag_said, copies_in, count, largest_row, most_tokens, no_bag, of, value as value_of}
 use Rattle.term.specs.Prefix.{term_at, bag_at}
-use Rattle.term.specs.Worth.{most}
 use Rattle.term.proofs.Cuts.{tail}
 use Rattle.term.proofs.Lookups.{absent, found}
 use Rattle.term.proofs.Tallies.{no_copies, row_copies, same_sum}
@@ -50,10 +49,10 @@ returns-in-50 g t c =
     (record {
       sum = g.met.T.Tally.laws.alike c.args.tally.now c.add_bag.new.tally
           (λ i. count s m a i + count s m b i) (λ i. count s m (p (drop 1 bs)).0 i + count s m (p (p (drop 1 bs)).1).0 i)
-          (most a + most b) (most (p (drop 1 bs)).0 + most (p (p (drop 1 bs)).1).0)
+          (most_tokens a + most_tokens b) (most_tokens (p (drop 1 bs)).0 + most_tokens (p (p (drop 1 bs)).1).0)
           (λ i. same_sum _ _ _ _ (ap (λ x. count s m x i) ea) (ap (λ x. count s m x i) eb))
-          (let u = ap most ea in let v = ap most eb in omega arith)
-          (g.met.T.Tally.laws.after c.args.tally.now c.add_bag-rest.new.tally c.add_bag.new.tally (count s m a) (count s m b) (most a) (most b)
+          (let u = ap most_tokens ea in let v = ap most_tokens eb in omega arith)
+          (g.met.T.Tally.laws.after c.args.tally.now c.add_bag-rest.new.tally c.add_bag.new.tally (count s m a) (count s m b) (most_tokens a) (most_tokens b)
           c.add_bag-rest.ensures.sum c.add_bag.ensures.sum);
       rest = c.add_bag.ensures.rest ∙ ap (λ x. (p x).1) e1;
     })
@@ -71,7 +70,7 @@ returns-in-Some g t c =
     let is = found _ _ _ k no_bag c.bag_operation.ensures _ c.in-Some.is in
     rw (at_flexible s c.args.depth bs (omega arith) (search rules) (search rules))
     (record {
-      sum = g.met.T.Tally.laws.alike c.args.tally.now c.add_row.new.self (λ i. get_or c.row.result.now i 0) (copies_in s (bag_operation s k) x) 65025 65025
+      sum = g.met.T.Tally.laws.alike c.args.tally.now c.add_row.new.self (λ i. get_or c.row.result.now i 0) (copies_in s (bag_operation s k) x) largest_row largest_row
           (λ i. row_copies s (bag_said c.in-Some.o.now) a c.row.result.now c.row.ensures.value i ∙ ap (λ o. copies_in s o a i) is ∙ ap (λ z. copies_in s (bag_operation s k) z i) q.0)
           (omega arith) c.add_row.ensures;
       rest = q.1;
@@ -89,7 +88,7 @@ returns-in_default-bag_operation g t c =
     let none = absent _ _ _ k no_bag c.bag_operation.ensures c.in_default-bag_operation.is in
     rw (at_flexible s c.args.depth bs (omega arith) (search rules) (search rules))
     (record {
-      sum = g.met.T.Tally.laws.alike c.args.tally.now c.args.tally.now (λ i. 0) (copies_in s (bag_operation s k) x) 0 65025
+      sum = g.met.T.Tally.laws.alike c.args.tally.now c.args.tally.now (λ i. 0) (copies_in s (bag_operation s k) x) 0 largest_row
           (λ i. sym (ap (λ o. copies_in s o x i) none ∙ no_copies s x i))
           (omega arith) (g.met.T.Tally.laws.nothing c.args.tally.now);
       rest = q.1;

@@ -5,6 +5,7 @@ use Rattle.term.specs.Adding.{weighs_nothing}
 use Rattle.term.proofs.Placed.{weighs_row}
 use Rattle.term.proofs.Sums.{place_past}
 use Rattle.term.proofs.tally.WeighedTally.add_row.Goals as goal
+use Rattle.term.specs.Meaning.{largest_row}
 
 pub returns-in_default : goal.returns-in_default
 returns-in_default g c =
@@ -13,7 +14,7 @@ returns-in_default g c =
     record {
       weights = refl;
       place = refl;
-      weighs = weighs_nothing (g.met.D.WeightDomain.lawful w.domain.now) w.codes.now _ _ 65025 (λ i h. place_past c.args.self.now.place (λ e. get_or c.args.row.now e 0) i (omega arith));
+      weighs = weighs_nothing (g.met.D.WeightDomain.lawful w.domain.now) w.codes.now _ _ largest_row (λ i h. place_past c.args.self.now.place (λ e. get_or c.args.row.now e 0) i (omega arith));
     }
 
 pub returns-in-Some : goal.returns-in-Some

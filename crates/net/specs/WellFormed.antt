@@ -3,16 +3,14 @@ use Rattle.std.specs.Prelude.{◌≡◌, ℕ, ◌+◌, ◌*◌, ◌^◌, ◌<◌
 use Rattle.std.specs.List.{All}
 use Rattle.std.specs.Option.{option_map_or}
 use Rattle.domain.specs.Kinds.{kind_weighs}
-use Rattle.format.specs.Format.{combinations, mode_count, size_of, variable_sizes}
+use Rattle.format.specs.Format.{combinations, depth, mode_count, most_modes, variable_sizes}
 use Rattle.term.specs.declared.signature.Arguments.{Arguments}
 use Rattle.term.specs.declared.signature.Arguments.TheVariants as arguments
-use Rattle.term.specs.Meaning.{BagOperation, Operation, Sig, bag_sorted, sorted}
+use Rattle.term.specs.Meaning.{BagOperation, Operation, Sig, bag_sorted, size_of, sorted}
 use Rattle.term.specs.Prefix.{bag_at, term_at}
 use Rattle.net.specs.declared.parts.Claim.{Claim}
-use Rattle.net.specs.Nets.{HasCell, depth}
-use Rattle.net.specs.Reading.{arc_count}
-use Rattle.net.specs.Spans.{Arc, spans}
-use Rattle.net.specs.System.{SystemNet, Transition}
+use Rattle.net.specs.Nets.{HasCell}
+use Rattle.net.specs.System.{Arc, SystemNet, Transition, arc_count, longest_file, most_arcs, most_bag_operations, most_claims, most_operations, most_places, most_sorts, most_transitions}
 use Rattle.net.specs.Written.{bag_bytes, term_bytes}
 
 -- each byte is below 256
@@ -30,14 +28,14 @@ ArgumentsDeclared sizes (arguments.One a) = Declared sizes a
 ArgumentsDeclared sizes (arguments.Two a b) = Declared sizes a × Declared sizes b
 
 -- an operation has a result for each combination of its arguments: an element of its result sort
-pub record SoundOperation (sizes : List ℕ) (o : Operation) : Type 0 where
+pub record WellFormedOperation (sizes : List ℕ) (o : Operation) : Type 0 where
   pub arguments : ArgumentsDeclared sizes o.arguments
   pub result : Declared sizes o.result
   pub whole : length o.table ≡ combinations sizes o.arguments
   pub results : All (λ e. e < size_of sizes o.result) o.table
 
 -- a bag operation has for each argument a count for each element of its result sort, below 256
-pub record SoundBagOperation (sizes : List ℕ) (o : BagOperation) : Type 0 where
+pub record WellFormedBagOperation (sizes : List ℕ) (o : BagOperation) : Type 0 where
   pub argument : Declared sizes o.argument
   pub result : Declared sizes o.result
   pub whole : length o.table ≡ size_of sizes o.argument * size_of sizes o.result
@@ -54,59 +52,65 @@ pub record IsBag (s : Sig) (vars : List ℕ) (want : ℕ) (bs : List ℕ) : Type
   pub bytes : bs ≡ bag_bytes s (bag_at s depth bs).0
 
 -- a guard is a term of sort 0 in the transition's variables
-abbrev pub SoundGuard : Sig → List ℕ → Option (List ℕ) → Type 0
-SoundGuard s vars None = Unit {0}
-SoundGuard s vars (Some g) = IsTerm s vars 0 g
+abbrev pub WellFormedGuard : Sig → List ℕ → Option (List ℕ) → Type 0
+WellFormedGuard s vars None = Unit {0}
+WellFormedGuard s vars (Some g) = IsTerm s vars 0 g
 
 -- an arc's place is declared, and its bag is one over the place's sort
-pub record SoundArc (s : Sig) (places vars : List ℕ) (a : Arc) : Type 0 where
+pub record WellFormedArc (s : Sig) (places vars : List ℕ) (a : Arc) : Type 0 where
   pub place : a.place < length places
   pub bag : IsBag s vars (slice_index places a.place) a.bag
 
--- a transition has at most 4 variables, of declared sorts, and at most 65,536 modes
-pub record SoundTransition (s : Sig) (places : List ℕ) (t : Transition) : Type 0 where
+-- a transition has at most 4 variables, of declared sorts, and not too many modes
+pub record WellFormedTransition (s : Sig) (places : List ℕ) (t : Transition) : Type 0 where
   pub few : length t.sorts ≤ 4
   pub sorts : All (Declared s.sizes) t.sorts
   pub sizes : t.sizes ≡ variable_sizes s.sizes (length t.sorts) t.sorts
-  pub modes : mode_count t.sizes ≤ 65536
-  pub guard : SoundGuard s t.sorts t.guard
-  pub takes : All (SoundArc s places t.sorts) t.takes
-  pub puts : All (SoundArc s places t.sorts) t.puts
+  pub modes : mode_count t.sizes ≤ most_modes
+  pub guard : WellFormedGuard s t.sorts t.guard
+  pub takes : All (WellFormedArc s places t.sorts) t.takes
+  pub puts : All (WellFormedArc s places t.sorts) t.puts
 
 -- a claim has 1,024 codes, which are weights of its kind
-pub record SoundClaim (k : Claim) : Type 0 where
+pub record WellFormedClaim (k : Claim) : Type 0 where
   pub long : length k.codes ≡ 1024
   pub weights : All (λ c. kind_weighs k.kind c ≡ true) k.codes
+
+-- how many bytes the bag of an arc has
+abbrev pub span : Arc → ℕ
+span a = length a.bag
+
+-- how many bytes the bags of arcs have
+abbrev pub spans : List Arc → ℕ
+spans xs = sum_by span xs
 
 -- how many bytes a transition's guard and bags have
 abbrev pub bytes_of : Transition → ℕ
 bytes_of t = option_map_or length t.guard 0 + (spans t.takes + spans t.puts)
 
 -- a net within all limits of a net file, whose terms are of the right sorts
-pub record Sound (n : SystemNet) : Type 0 where
-  -- at most 8 sorts; sort 0 has two elements, and every sort 1 to 64
-  pub sorts : length n.sig.sizes ≤ 8
+pub record WellFormed (n : SystemNet) : Type 0 where
+  pub sorts : length n.sig.sizes ≤ most_sorts
+  -- sort 0 has two elements, and every sort 1 to 64
   pub truths : size_of n.sig.sizes 0 ≡ 2
   pub inhabited : All (λ k. 1 ≤ k) n.sig.sizes
   pub sizes : All (λ k. k ≤ 64) n.sig.sizes
-  -- at most 32 operations and 8 bag operations
-  pub few_operations : length n.sig.operations ≤ 32
-  pub operations : All (SoundOperation n.sig.sizes) n.sig.operations
-  pub few_bags : length n.sig.bags ≤ 8
-  pub bags : All (SoundBagOperation n.sig.sizes) n.sig.bags
-  -- at most 16 places, of declared sorts
-  pub few_places : length n.places ≤ 16
+  pub few_operations : length n.sig.operations ≤ most_operations
+  pub operations : All (WellFormedOperation n.sig.sizes) n.sig.operations
+  pub few_bags : length n.sig.bags ≤ most_bag_operations
+  pub bags : All (WellFormedBagOperation n.sig.sizes) n.sig.bags
+  pub few_places : length n.places ≤ most_places
   pub places : All (Declared n.sig.sizes) n.places
   -- the initial marking has 1,024 counts of 16 bits; one that is of no cell is 0
   pub marked : length n.initial ≡ 1024
   pub counts : All (λ k. k < 2 ^ 16) n.initial
   pub unmarked : (c : ℕ) → (HasCell n c → ⊥) → slice_index n.initial c ≡ 0
-  -- at most 32 transitions and 128 arcs; guards and bags have no more bytes than the longest file
-  pub few_transitions : length n.transitions ≤ 32
-  pub transitions : All (SoundTransition n.sig n.places) n.transitions
-  pub few_arcs : arc_count n ≤ 128
-  pub short : sum_by bytes_of n.transitions ≤ 65536
-  -- at most 16 claims; a code that is of no cell is 0
-  pub few_claims : length n.claims ≤ 16
-  pub claims : All SoundClaim n.claims
+  pub few_transitions : length n.transitions ≤ most_transitions
+  pub transitions : All (WellFormedTransition n.sig n.places) n.transitions
+  pub few_arcs : arc_count n ≤ most_arcs
+  -- guards and bags have no more bytes than the longest file
+  pub short : sum_by bytes_of n.transitions ≤ longest_file
+  pub few_claims : length n.claims ≤ most_claims
+  pub claims : All WellFormedClaim n.claims
+  -- a code that is of no cell is 0
   pub uncoded : All (λ k. (c : ℕ) → (HasCell n c → ⊥) → slice_index_or k.codes c (pos 0) ≡ pos 0) n.claims

@@ -1,4 +1,7 @@
 // The lines of the report.
+ghost use Rattle.std.specs.Prelude.{Some};
+ghost use Rattle.report.specs.Lines.{cell_line, claim_line, fault_line, replay_line};
+
 use judge::Outcome;
 use std::fmt;
 use term::FileFault;
@@ -9,6 +12,8 @@ use trace::Replayed;
 pub struct FaultLine(pub FileFault);
 
 impl fmt::Display for FaultLine {
+    ghost output = { λ l. Some (fault_line l.0) };
+
     fn fmt<W: fmt::Write>(&self, f: &mut fmt::Formatter<W>) -> fmt::Result {
         let number = self.0.fault.number();
         let place = self.0.place;
@@ -25,6 +30,8 @@ pub struct ClaimLine {
 }
 
 impl fmt::Display for ClaimLine {
+    ghost output = { λ l. Some (claim_line l.claim l.outcome) };
+
     fn fmt<W: fmt::Write>(&self, f: &mut fmt::Formatter<W>) -> fmt::Result {
         let claim = self.claim;
         match self.outcome {
@@ -43,6 +50,8 @@ impl fmt::Display for ClaimLine {
 pub struct ReplayLine(pub Replayed);
 
 impl fmt::Display for ReplayLine {
+    ghost output = { λ l. Some (replay_line l.0) };
+
     fn fmt<W: fmt::Write>(&self, f: &mut fmt::Formatter<W>) -> fmt::Result {
         let carried = self.0.carried;
         match self.0.stop {
@@ -53,5 +62,22 @@ impl fmt::Display for ReplayLine {
                 write!(f, "replay {carried} stopped {number} {place}")
             }
         }
+    }
+}
+
+// A cell that holds tokens, and how many.
+#[derive(Drop)]
+pub struct CellLine {
+    pub cell: usize,
+    pub count: u16,
+}
+
+impl fmt::Display for CellLine {
+    ghost output = { λ l. Some (cell_line l.cell l.count) };
+
+    fn fmt<W: fmt::Write>(&self, f: &mut fmt::Formatter<W>) -> fmt::Result {
+        let cell = self.cell;
+        let count = self.count;
+        write!(f, "cell {cell} {count}")
     }
 }
