@@ -11,6 +11,7 @@ use Rattle.bench.specs.Calls.{Begun, FireRefused, Fired, Lacking, Lent, Lowest, 
 use Rattle.bench.specs.Counted.{largest_count}
 use Rattle.trace.specs.Carrying.{Does, Fitting, Refuses, firing_of}
 use Rattle.trace.specs.Moves.{Move, back, fire, restart}
+use Rattle.report.proofs.Below.{below_same_above}
 
 -- the same marking, the same trail, and as much room for it
 pub record Same (l k : Lent) : Type 0 where
@@ -20,9 +21,6 @@ pub record Same (l k : Lent) : Type 0 where
 
 pub same_back : (l k : Lent) → Same l k → Same k l
 same_back l k s = record { counts = λ c h. sym (s.counts c h); trail = sym s.trail; memory = sym s.memory }
-
-below_same_above : (i j : ℕ) → (i < j) ⊎ ((i ≡ j) ⊎ (j < i))
-below_same_above i j = grind arith
 
 not_both : (i j : ℕ) → i ≤ j → j < i → ⊥
 not_both i j a b = omega arith

@@ -1,6 +1,7 @@
-pub mod Orders
-pub mod Surveyed
-pub mod Replayed
-pub mod Verdicts
 pub mod Alike
+pub mod Below
 pub mod Only
+pub mod Orders
+pub mod Replayed
+pub mod Surveyed
+pub mod Verdicts

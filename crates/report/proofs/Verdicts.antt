@@ -1,5 +1,5 @@
 -- A claim has one verdict by its kind: the memory that it is judged from makes no difference.
-use Rattle.std.proofs.Common.{◌≡◌, ℕ, ◌<◌, ◌⊎◌, true, List, ℤ, Ok, Err, sym, refl, ap, ◌∙◌, subst, ⊎_elim, arith}
+use Rattle.std.proofs.Common.{◌≡◌, ℕ, ◌<◌, ◌⊎◌, true, List, ℤ, Ok, Err, sym, refl, ap, ◌∙◌, subst, ⊎_elim}
 use Rattle.domain.specs.Meaning.{Meaning}
 use Rattle.domain.specs.Domains.{equal, modulo, never_rises, siphon, turned}
 use Rattle.domain.specs.declared.kind.Kind.{Kind}
@@ -11,6 +11,7 @@ use Rattle.judge.specs.Calls.{Memory}
 use Rattle.judge.specs.Judged.{First, Judged, Kept, Verdict, after, before}
 use Rattle.judge.specs.Kinds.{ByKind, KindCalled, Outcome}
 use Rattle.report.specs.Report.{Answers}
+use Rattle.report.proofs.Below.{below_same_above}
 
 -- a verdict without its values
 abbrev outcome_of : {V : Type 0} → Verdict V → Outcome
@@ -19,9 +20,6 @@ outcome_of (Err x) = Err x.firing
 
 abbrev firing_at : ℕ → List ℕ → Firing
 firing_at t m = record { transition = t; mode = m }
-
-below_same_above : (i j : ℕ) → (i < j) ⊎ ((i ≡ j) ⊎ (j < i))
-below_same_above i j = grind arith
 
 module _ {V : Type 0} (d : Meaning V) (codes : List ℤ) (n : SystemNet) where
   -- a mode that breaks a claim is none of those that keep it
