@@ -8,15 +8,16 @@ use Rattle.domain.proofs.Truths.{copies_false, copies_truth}
 use Rattle.domain.specs.Wholes.{WholeOrder}
 use Rattle.domain.proofs.Wholes.{copies_whole}
 
-module _ {rel : ℤ → ℤ → Type 0} (o : WholeOrder rel) where
+-- a relation of whole numbers that lies between "equal" and "at least"
+module _ {rel : ℤ → ℤ → Type 0} (same : (v x : ℤ) → v ≡ x → rel v x) (down : (v x : ℤ) → rel v x → x ≤ℤ v) where
   reaches : (a b n : ℕ) → n * b ≤ a → Reaches (whole rel) (λ v. pos 0 ≤ℤ v) (pos a) (pos b) n
   reaches a b n h =
       let e : pos a ≡ copies (whole rel) n (pos b) +ℤ pos (a - n * b) = rw (copies_whole n (pos b)) (ap pos (omega arith)) in
-      (pos (a - n * b), omega (arith, ints), subst (rel (pos a)) e (o.same (pos a)))
+      (pos (a - n * b), omega (arith, ints), same (pos a) (copies (whole rel) n (pos b) +ℤ pos (a - n * b)) e)
 
   not_past : (a b n : ℕ) → Reaches (whole rel) (λ v. pos 0 ≤ℤ v) (pos a) (pos b) n → n * b ≤ a
   not_past a b n (p, plain, r) =
-      let d : (pos (n * b) +ℤ p) ≤ℤ pos a = subst (λ (x : ℤ). (x +ℤ p) ≤ℤ pos a) (copies_whole n (pos b)) (o.down (pos a) (copies (whole rel) n (pos b) +ℤ p) r) in
+      let d : (pos (n * b) +ℤ p) ≤ℤ pos a = subst (λ (x : ℤ). (x +ℤ p) ≤ℤ pos a) (copies_whole n (pos b)) (down (pos a) (copies (whole rel) n (pos b) +ℤ p) r) in
       omega (arith, ints)
 
   pub largest_whole : (v w : ℤ) → pos 0 ≤ℤ v → pos 0 ≤ℤ w → Largest (whole rel) (λ v. pos 0 ≤ℤ v) v w (whole_largest v w)
@@ -27,6 +28,10 @@ module _ {rel : ℤ → ℤ → Type 0} (o : WholeOrder rel) where
   largest_whole (pos a) (negsuc b) h k = let z : ⊥ = omega (arith, ints) in elim z [ ]
   largest_whole (negsuc a) (pos b) h k = let z : ⊥ = omega (arith, ints) in elim z [ ]
   largest_whole (negsuc a) (negsuc b) h k = let z : ⊥ = omega (arith, ints) in elim z [ ]
+
+module _ {rel : ℤ → ℤ → Type 0} (o : WholeOrder rel) where
+  pub largest_ordered : (v w : ℤ) → pos 0 ≤ℤ v → pos 0 ≤ℤ w → Largest (whole rel) (λ v. pos 0 ≤ℤ v) v w (whole_largest v w)
+  largest_ordered = largest_whole (λ v x e. subst (rel v) e (o.same v)) o.down
 
 pub largest_truth : (v w : Bool) → Largest siphon (λ _. Unit {0}) v w (truth_largest v w)
 largest_truth true w = λ n. (false, tt, λ _. refl)

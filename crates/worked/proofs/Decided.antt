@@ -13,7 +13,7 @@ use Rattle.domain.specs.Truths.{truth_laws}
 use Rattle.domain.specs.Turning.{turned_laws}
 use Rattle.domain.specs.Wholes.{equal_relates, never_rises_relates}
 use Rattle.domain.proofs.Wholes.{equal_laws, never_rises_laws}
-use Rattle.domain.proofs.Measures.{largest_truth, largest_whole}
+use Rattle.domain.proofs.Measures.{largest_ordered, largest_truth}
 
 -- the values of a kind's domain, the domain, and what it calls plain, where it measures
 abbrev pub Values : Kind → Type 0
@@ -113,8 +113,8 @@ largest kind.Trap v w = None
 largest kind.Siphon v w = truth_largest v w
 
 pub largest_is : (x : Kind) (v w : Values x) → plain x v ≡ true → plain x w ≡ true → Largest (domain_of x) (plain_of x) v w (largest x v w)
-largest_is kind.Equal v w p q = largest_whole equal_relates v w (up_to (pos 0) v true p) (up_to (pos 0) w true q)
-largest_is kind.NeverRises v w p q = largest_whole never_rises_relates v w (up_to (pos 0) v true p) (up_to (pos 0) w true q)
+largest_is kind.Equal v w p q = largest_ordered equal_relates v w (up_to (pos 0) v true p) (up_to (pos 0) w true q)
+largest_is kind.NeverRises v w p q = largest_ordered never_rises_relates v w (up_to (pos 0) v true p) (up_to (pos 0) w true q)
 largest_is kind.NeverFalls v w p q = absurd (true≢false (sym p))
 largest_is (kind.Modulo x) v w p q = absurd (true≢false (sym p))
 largest_is kind.Trap v w p q = absurd (true≢false (sym p))
