@@ -4,3 +4,5 @@
 pub mod nets;
 #[cfg(test)]
 mod reading;
+#[cfg(test)]
+mod tables;

@@ -26,7 +26,7 @@ pub truth_below : (t : Bool) → truth t < 2
 truth_below true = omega arith
 truth_below false = omega arith
 
-module _ (s : Sig) (well_formed : All (WellFormedOperation s.sizes) s.operations) (truths : 2 ≤ size s 0) (vars m : List ℕ) (mode : (v : ℕ) → v < length vars → get_or m v 0 < size s (get_or vars v 0)) where
+module _ (s : Sig) (well_formed : All (WellFormedOperation s.sizes s.tables) s.operations) (truths : 2 ≤ size s 0) (vars m : List ℕ) (mode : (v : ℕ) → v < length vars → get_or m v 0 < size s (get_or vars v 0)) where
   result_below : (k : ℕ) → k < length s.operations → (a : Arguments) → (operation s k).arguments ≡ a → (x y : ℕ) → Among s a x y → result s (operation s k) x y < size s (operation s k).result
   result_below k there a z x y h =
       let o = well_formed k no_operation there in
@@ -34,7 +34,7 @@ module _ (s : Sig) (well_formed : All (WellFormedOperation s.sizes) s.operations
       let e = ap (λ l. x * width s l + y) z in
       let f = ap (combinations s.sizes) z in
       let i = inside s a x y h in
-      o.results at 0 (omega (arith, o.whole, e, f, i))
+      o.results at (omega (arith, e, f, i))
 
   -- if it is of the sort, its value is one of the sort's elements
   abbrev Kept : ℕ → Term → Type 0

@@ -1,5 +1,5 @@
 -- What well-formedness bounds: the bags and the tokens of one side of a firing, and the modes.
-use Rattle.std.proofs.Common.{ℕ, ◌+◌, ◌-◌, ◌*◌, ◌<◌, ◌≤◌, eqb, ltb, leb, List, [], ◌∷◌, length, ap, arith}
+use Rattle.std.proofs.Common.{ℕ, ◌+◌, ◌-◌, ◌*◌, ◌≤◌, eqb, ltb, leb, List, [], ◌∷◌, length, ap, arith}
 use Rattle.std.specs.List.{All, sum_by}
 use Rattle.std.proofs.lemmas.List.{length-append}
 use Rattle.std.proofs.lemmas.List.Elements.{All-nil, All-tail}
@@ -8,9 +8,9 @@ use Rattle.std.proofs.lemmas.Bool.{cond_both}
 use Rattle.format.specs.Format.{mode_count, most_modes}
 use Rattle.format.specs.declared.command.Direction.{Direction}
 use Rattle.format.specs.declared.command.Direction.TheVariants as direction
-use Rattle.term.specs.Meaning.{Bag, Sig, Term, apply, bag_operation, both, constant, copies_in, count, empty, equal, flexible, negate, no_bag, single, size, sum, value, variable}
+use Rattle.term.specs.Meaning.{Bag, Sig, Term, apply, bag_operation, both, constant, copies_in, count, empty, equal, flexible, negate, single, size, sum, value, variable}
 use Rattle.net.specs.Nets.{arcs_of, bag_of, largest_side, part, side, transition}
-use Rattle.net.specs.WellFormed.{Bytes, WellFormed, WellFormedArc, WellFormedTransition, bytes_of, span, spans}
+use Rattle.net.specs.WellFormed.{WellFormed, WellFormedArc, WellFormedTransition, bytes_of, span, spans}
 use Rattle.net.specs.System.{Arc, SystemNet, Transition, longest_file, most_transitions, no_transition, towards}
 use Rattle.net.specs.Written.{bag_bytes, term_bytes}
 use Rattle.net.proofs.Anywhere.{anywhere}
@@ -45,8 +45,8 @@ module _ (n : SystemNet) (well_formed : WellFormed n) (m : List ℕ) where
   few_copies : (k a e : ℕ) → copies_in n.sig (bag_operation n.sig k) a e ≤ 255
   few_copies k a e =
       let o = bag_operation n.sig k in
-      let counts : Bytes o.table = anywhere (λ x. Bytes x.table) n.sig.bags no_bag (λ i d h. (well_formed.bags i d h).counts) (All-nil (λ c. c < 256)) k in
-      cond_both (ltb e (size n.sig o.result)) _ _ (λ j. j ≤ 255) (λ _. anywhere (λ c. c ≤ 255) o.table 0 (λ i d h. let l = counts i d h in omega arith) (omega arith) (a * size n.sig o.result + e)) (λ _. omega arith)
+      cond_both (ltb e (size n.sig o.result)) _ _ (λ j. j ≤ 255)
+      (λ _. anywhere (λ c. c ≤ 255) n.sig.tables 0 (λ i d h. let l = well_formed.tables i d h in omega arith) (omega arith) (o.table + (a * size n.sig o.result + e))) (λ _. omega arith)
 
   -- at most 255 of an element for each 4 bytes: no flexible arc is shorter, since its argument has two bytes at least
   many : (b : Bag) (e : ℕ) → 4 * count n.sig m b e ≤ 255 * length (bag_bytes n.sig b)

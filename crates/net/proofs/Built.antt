@@ -7,16 +7,16 @@ use Rattle.format.specs.Format.{place_size}
 use Rattle.format.specs.declared.command.Direction.{Direction}
 use Rattle.format.specs.declared.section.Section.{Section}
 use Rattle.term.specs.declared.signature.Arguments.{Arguments}
-use Rattle.term.specs.Meaning.{BagOperation, Operation, Sig}
+use Rattle.term.specs.Meaning.{Sig}
 use Rattle.net.specs.declared.parts.Claim.{Claim}
 use Rattle.net.specs.Nets.{no_claim}
 use Rattle.net.specs.Reading.{add, newest}
-use Rattle.net.specs.WellFormed.{IsTerm, WellFormedArc, WellFormedBagOperation, WellFormedOperation}
+use Rattle.net.specs.WellFormed.{IsTerm, WellFormedArc}
 use Rattle.net.specs.System.{SystemNet, Transition, arc_count, most_arcs, most_bag_operations, most_claims, most_operations, most_places, most_sorts, most_transitions, no_transition}
 use Rattle.net.proofs.Cells.{Marked, marked_place, marked_sort, marked_tokens}
 use Rattle.net.proofs.Codings.{Codings, codings_before, codings_claim, codings_element, codings_place}
 use Rattle.net.proofs.Moves.{Moves, moves_arc, moves_before, moves_guard, moves_transition}
-use Rattle.net.proofs.Operands.{Varied}
+use Rattle.net.proofs.Operands.{Counting, Resulting, Varied}
 use Rattle.net.proofs.Signatures.{Signed, small, with_bag_operation, with_operation, with_sort}
 use Rattle.net.proofs.Stages.{Opens, Stage, rank}
 
@@ -54,18 +54,15 @@ module _ (s s' : Section) (n : SystemNet) (b : Built s n) where
       other_sig (record n.sig { sizes = n.sig.sizes ++ k ∷ [] }) (with_sort n.sig b.sig k low high room none no_bags)
       (marked_sort n.sig.sizes n.places n.initial b.marking (b.stage.places (omega arith)) (n.sig.sizes ++ k ∷ [])) (omega arith) (λ _. none) (λ _. no_bags)
 
-  pub add_operation : (a : Arguments) (r : ℕ) (t : List ℕ) → WellFormedOperation n.sig.sizes (record { arguments = a; result = r; table = t }) → length n.sig.operations < most_operations → Opens 1 s s'
-      → Built s' (add n (operation a r t))
+  pub add_operation : (a : Arguments) (r : ℕ) (t : List ℕ) → Resulting n.sig.sizes a r t → length n.sig.operations < most_operations → Opens 1 s s' → Built s' (add n (operation a r t))
   add_operation a r t h room o =
-      let new : Operation = record { arguments = a; result = r; table = t } in
       let second : rank s' ≡ 1 = o.1 in
-      other_sig (record n.sig { operations = n.sig.operations ++ new ∷ [] }) (with_operation n.sig b.sig new h room) b.marking o.0 (λ l. let z : ⊥ = omega arith in absurd z) (λ l. let z : ⊥ = omega arith in absurd z)
+      other_sig (add n (operation a r t)).sig (with_operation n.sig b.sig a r t h room) b.marking o.0 (λ l. let z : ⊥ = omega arith in absurd z) (λ l. let z : ⊥ = omega arith in absurd z)
 
-  pub add_bag_operation : (x r : ℕ) (t : List ℕ) → WellFormedBagOperation n.sig.sizes (record { argument = x; result = r; table = t }) → length n.sig.bags < most_bag_operations → Opens 1 s s' → Built s' (add n (bag_operation x r t))
+  pub add_bag_operation : (x r : ℕ) (t : List ℕ) → Counting n.sig.sizes x r t → length n.sig.bags < most_bag_operations → Opens 1 s s' → Built s' (add n (bag_operation x r t))
   add_bag_operation x r t h room o =
-      let new : BagOperation = record { argument = x; result = r; table = t } in
       let second : rank s' ≡ 1 = o.1 in
-      other_sig (record n.sig { bags = n.sig.bags ++ new ∷ [] }) (with_bag_operation n.sig b.sig new h room) b.marking o.0 (λ l. let z : ⊥ = omega arith in absurd z) (λ l. let z : ⊥ = omega arith in absurd z)
+      other_sig (add n (bag_operation x r t)).sig (with_bag_operation n.sig b.sig x r t h room) b.marking o.0 (λ l. let z : ⊥ = omega arith in absurd z) (λ l. let z : ⊥ = omega arith in absurd z)
 
   -- places and the initial marking, before there are transitions
   other_cells : (places initial : List ℕ) → Marked n.sig.sizes places initial → Opens 2 s s' → Built s' (record n { places = places; initial = initial })

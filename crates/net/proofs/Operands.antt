@@ -19,7 +19,7 @@ use Rattle.format.specs.declared.command.Code.{Code}
 use Rattle.format.specs.declared.command.Code.TheVariants as code
 use Rattle.format.specs.declared.command.Direction.{Direction}
 use Rattle.format.specs.declared.command.Direction.TheVariants as direction
-use Rattle.net.specs.WellFormed.{ArgumentsDeclared, Bytes, IsBag, IsTerm, WellFormedArc, WellFormedBagOperation, WellFormedOperation}
+use Rattle.net.specs.WellFormed.{ArgumentsDeclared, Bytes, IsBag, IsTerm, WellFormedArc}
 use Rattle.net.specs.Written.{bag_bytes, term_bytes}
 use Rattle.net.proofs.Checked.{Leaves, Spelt, SpeltBag, bag_spelt, leave, own_front, term_spelt}
 
@@ -29,11 +29,28 @@ pub record Varied (sizes : List ℕ) (v : List ℕ) : Type 0 where
   pub sorts : All (λ k. k < length sizes) v
   pub modes : mode_count (variable_sizes sizes (length v) v) ≤ most_modes
 
+-- an operation's arguments and result are of declared sorts, and its table is of bytes: a result for each combination of
+-- its arguments, an element of the result sort
+pub record Resulting (sizes : List ℕ) (a : Arguments) (r : ℕ) (t : List ℕ) : Type 0 where
+  pub arguments : ArgumentsDeclared sizes a
+  pub result : r < length sizes
+  pub whole : length t ≡ combinations sizes a
+  pub results : All (λ e. e < size_of sizes r) t
+  pub bytes : Bytes t
+
+-- a bag operation's sorts are declared, and its table is of bytes: for each argument a count for each element of the
+-- result sort
+pub record Counting (sizes : List ℕ) (a r : ℕ) (t : List ℕ) : Type 0 where
+  pub argument : a < length sizes
+  pub result : r < length sizes
+  pub whole : length t ≡ size_of sizes a * size_of sizes r
+  pub counts : Bytes t
+
 -- what the format says under each code, in a file of bytes
 pub data Heard (x : Setting) : Code → Said → Type 0 where
   heard_sort : (n : ℕ) → 1 ≤ n → n ≤ 64 → Heard x code.Sort (sort n)
-  heard_operation : (a : Arguments) (r : ℕ) (t : List ℕ) → WellFormedOperation x.signature.sizes (record { arguments = a; result = r; table = t }) → Heard x code.Operation (operation a r t)
-  heard_bag_operation : (a r : ℕ) (t : List ℕ) → WellFormedBagOperation x.signature.sizes (record { argument = a; result = r; table = t }) → Heard x code.BagOperation (bag_operation a r t)
+  heard_operation : (a : Arguments) (r : ℕ) (t : List ℕ) → Resulting x.signature.sizes a r t → Heard x code.Operation (operation a r t)
+  heard_bag_operation : (a r : ℕ) (t : List ℕ) → Counting x.signature.sizes a r t → Heard x code.BagOperation (bag_operation a r t)
   heard_place : (s : ℕ) → s < length x.signature.sizes → Heard x code.Place (place s)
   heard_tokens : (p e n : ℕ) → e < place_size x.signature.sizes x.places p → n < 65536 → Heard x code.Tokens (tokens p e n)
   heard_transition : (v : List ℕ) → Varied x.signature.sizes v → Heard x code.Transition (transition v)
@@ -209,6 +226,7 @@ module _ (x : Setting) (bs : List ℕ) (bytes : Bytes bs) where
             result = known;
             whole = h;
             results = none_bad (size_of sizes (at 4)) 0 (take k (drop 5 bs)) e;
+            bytes = All-take (λ b. b < 256) k (drop 5 bs) (All-drop (λ b. b < 256) 5 bs bytes);
           })) (leb k (length (drop 5 bs))) _ refl
       checked few f g long known (Some i) e = tt
   taken code.BagOperation =

@@ -1,12 +1,16 @@
 -- Sorts and operations, as they are declared.
-use Rattle.std.proofs.Common.{◌≡◌, ℕ, ◌<◌, ◌≤◌, [], ◌∷◌, ◌++◌, length, ◌∙◌, ⊎_elim, arith}
+use Rattle.std.proofs.Common.{◌≡◌, ℕ, ◌+◌, ◌<◌, ◌≤◌, List, [], ◌∷◌, ◌++◌, length, get_or, ◌∙◌, ⊎_elim, arith}
 use Rattle.std.specs.List.{All}
-use Rattle.std.proofs.lemmas.List.{get_or_append_left, get_or_past, length_push}
-use Rattle.std.proofs.lemmas.List.Elements.{All-push}
+use Rattle.std.proofs.lemmas.List.{get_or-append-add, get_or_append_left, get_or_past, length-append, length_push}
+use Rattle.std.proofs.lemmas.List.Elements.{All-append, All-push}
 use Rattle.std.proofs.lemmas.Bool.{cases_lt}
-use Rattle.term.specs.Meaning.{BagOperation, Operation, Sig, size_of}
-use Rattle.net.specs.WellFormed.{WellFormedBagOperation, WellFormedOperation}
+use Rattle.term.specs.declared.signature.Arguments.{Arguments}
+use Rattle.term.specs.declared.signature.BagOperation.{BagOperation}
+use Rattle.term.specs.declared.signature.Operation.{Operation}
+use Rattle.term.specs.Meaning.{Sig, size_of}
+use Rattle.net.specs.WellFormed.{Bytes, WellFormedBagOperation, WellFormedOperation}
 use Rattle.net.proofs.Anywhere.{anywhere}
+use Rattle.net.proofs.Operands.{Counting, Resulting}
 use Rattle.net.specs.System.{most_bag_operations, most_operations, most_sorts}
 
 -- within the limits of sorts and operations; sort 0 has two elements, and every sort 1 to 64
@@ -16,9 +20,51 @@ pub record Signed (s : Sig) : Type 0 where
   pub inhabited : All (λ k. 1 ≤ k) s.sizes
   pub sizes : All (λ k. k ≤ 64) s.sizes
   pub few_operations : length s.operations ≤ most_operations
-  pub operations : All (WellFormedOperation s.sizes) s.operations
+  pub operations : All (WellFormedOperation s.sizes s.tables) s.operations
   pub few_bags : length s.bags ≤ most_bag_operations
-  pub bags : All (WellFormedBagOperation s.sizes) s.bags
+  pub bags : All (WellFormedBagOperation s.sizes s.tables) s.bags
+  pub tables : Bytes s.tables
+
+-- with another table behind the others, what stood there stands there still, and the new one follows
+module _ (sizes tables t : List ℕ) where
+  stands : (i : ℕ) → i < length tables → get_or (tables ++ t) i 0 ≡ get_or tables i 0
+  stands i h = get_or_append_left tables t 0 i h
+
+  still : (o : Operation) → WellFormedOperation sizes tables o → WellFormedOperation sizes (tables ++ t) o
+  still o f =
+      let in-all = f.within in
+      record {
+        arguments = f.arguments;
+        result = f.result;
+        within = omega (arith, in-all, length-append tables t);
+        results = λ i h. let k = f.results i h in let e = stands (o.table + i) (omega (arith, in-all, h)) in omega (arith, k, e);
+      }
+
+  still_bag : (o : BagOperation) → WellFormedBagOperation sizes tables o → WellFormedBagOperation sizes (tables ++ t) o
+  still_bag o f =
+      let in-all = f.within in
+      record {
+        argument = f.argument;
+        result = f.result;
+        within = omega (arith, in-all, length-append tables t);
+        counts = λ i h. let k = f.counts i h in let e = stands (o.table + i) (omega (arith, in-all, h)) in omega (arith, k, e);
+      }
+
+  follows : (a : Arguments) (r : ℕ) → Resulting sizes a r t → WellFormedOperation sizes (tables ++ t) (record { arguments = a; result = r; table = length tables })
+  follows a r h = record {
+    arguments = h.arguments;
+    result = h.result;
+    within = omega (arith, h.whole, length-append tables t);
+    results = λ i l. let k = h.results i 0 (omega (arith, h.whole, l)) in let e = get_or-append-add tables t i 0 in omega (arith, k, e);
+  }
+
+  follows_bag : (a r : ℕ) → Counting sizes a r t → WellFormedBagOperation sizes (tables ++ t) (record { argument = a; result = r; table = length tables })
+  follows_bag a r h = record {
+    argument = h.argument;
+    result = h.result;
+    within = omega (arith, h.whole, length-append tables t);
+    counts = λ i l. let k = h.counts i 0 (omega (arith, h.whole, l)) in let e = get_or-append-add tables t i 0 in omega (arith, k, e);
+  }
 
 module _ (s : Sig) (f : Signed s) where
   some_sort : 0 < length s.sizes
@@ -39,28 +85,37 @@ module _ (s : Sig) (f : Signed s) where
     operations = λ i d l. let z : ⊥ = omega arith in absurd z;
     few_bags = f.few_bags;
     bags = λ i d l. let z : ⊥ = omega arith in absurd z;
+    tables = f.tables;
   }
 
-  pub with_operation : (o : Operation) → WellFormedOperation s.sizes o → length s.operations < most_operations → Signed (record s { operations = s.operations ++ o ∷ [] })
-  with_operation o h room = record {
-    sorts = f.sorts;
-    truths = f.truths;
-    inhabited = f.inhabited;
-    sizes = f.sizes;
-    few_operations = omega (arith, length_push s.operations o);
-    operations = All-push (WellFormedOperation s.sizes) s.operations o f.operations h;
-    few_bags = f.few_bags;
-    bags = f.bags;
-  }
+  pub with_operation : (a : Arguments) (r : ℕ) (t : List ℕ) → Resulting s.sizes a r t → length s.operations < most_operations
+      → Signed (record s { operations = s.operations ++ (record { arguments = a; result = r; table = length s.tables }) ∷ []; tables = s.tables ++ t })
+  with_operation a r t h room =
+      let o : Operation = record { arguments = a; result = r; table = length s.tables } in
+      record {
+        sorts = f.sorts;
+        truths = f.truths;
+        inhabited = f.inhabited;
+        sizes = f.sizes;
+        few_operations = omega (arith, length_push s.operations o);
+        operations = All-push (WellFormedOperation s.sizes (s.tables ++ t)) s.operations o (λ i d l. still s.sizes s.tables t _ (f.operations i d l)) (follows s.sizes s.tables t a r h);
+        few_bags = f.few_bags;
+        bags = λ i d l. still_bag s.sizes s.tables t _ (f.bags i d l);
+        tables = All-append (λ b. b < 256) s.tables t f.tables h.bytes;
+      }
 
-  pub with_bag_operation : (o : BagOperation) → WellFormedBagOperation s.sizes o → length s.bags < most_bag_operations → Signed (record s { bags = s.bags ++ o ∷ [] })
-  with_bag_operation o h room = record {
-    sorts = f.sorts;
-    truths = f.truths;
-    inhabited = f.inhabited;
-    sizes = f.sizes;
-    few_operations = f.few_operations;
-    operations = f.operations;
-    few_bags = omega (arith, length_push s.bags o);
-    bags = All-push (WellFormedBagOperation s.sizes) s.bags o f.bags h;
-  }
+  pub with_bag_operation : (a r : ℕ) (t : List ℕ) → Counting s.sizes a r t → length s.bags < most_bag_operations
+      → Signed (record s { bags = s.bags ++ (record { argument = a; result = r; table = length s.tables }) ∷ []; tables = s.tables ++ t })
+  with_bag_operation a r t h room =
+      let o : BagOperation = record { argument = a; result = r; table = length s.tables } in
+      record {
+        sorts = f.sorts;
+        truths = f.truths;
+        inhabited = f.inhabited;
+        sizes = f.sizes;
+        few_operations = f.few_operations;
+        operations = λ i d l. still s.sizes s.tables t _ (f.operations i d l);
+        few_bags = omega (arith, length_push s.bags o);
+        bags = All-push (WellFormedBagOperation s.sizes (s.tables ++ t)) s.bags o (λ i d l. still_bag s.sizes s.tables t _ (f.bags i d l)) (follows_bag s.sizes s.tables t a r h);
+        tables = All-append (λ b. b < 256) s.tables t f.tables h.counts;
+      }

@@ -24,7 +24,7 @@ use Rattle.term.specs.Worth.{cell_at}
 
 -- the net that the end alone tells: sort 0 with its two elements
 abbrev pub empty : SystemNet
-empty = record { sig = record { sizes = 2 ∷ []; operations = []; bags = [] }; places = []; initial = replicate 1024 0; transitions = []; claims = [] }
+empty = record { sig = record { sizes = 2 ∷ []; operations = []; bags = []; tables = [] }; places = []; initial = replicate 1024 0; transitions = []; claims = [] }
 
 -- what stands last, or something in its place
 abbrev pub newest : {X : Type 0} → List X → X → X
@@ -81,11 +81,18 @@ coded f k = record k { codes = f k.codes }
 abbrev pub weighted : SystemNet → (List ℤ → List ℤ) → SystemNet
 weighted n f = record n { claims = renew n.claims no_claim (coded f) }
 
--- the net with a command carried out: guards and arcs are of the newest transition, weights are for the newest claim
+-- the net with a table behind the others
+abbrev pub table_added : List ℕ → SystemNet → SystemNet
+table_added t n = record n { sig = record n.sig { tables = n.sig.tables ++ t } }
+
+-- the net with a command carried out: the table of an operation or a bag operation stands behind the others, guards and
+-- arcs are of the newest transition, weights are for the newest claim
 abbrev pub add : SystemNet → Said → SystemNet
 add n (sort k) = record n { sig = record n.sig { sizes = n.sig.sizes ++ k ∷ [] } }
-add n (operation a r t) = record n { sig = record n.sig { operations = n.sig.operations ++ (record { arguments = a; result = r; table = t }) ∷ [] } }
-add n (bag_operation a r t) = record n { sig = record n.sig { bags = n.sig.bags ++ (record { argument = a; result = r; table = t }) ∷ [] } }
+add n (operation a r t) =
+    record n { sig = record n.sig { operations = n.sig.operations ++ (record { arguments = a; result = r; table = length n.sig.tables }) ∷ []; tables = n.sig.tables ++ t } }
+add n (bag_operation a r t) =
+    record n { sig = record n.sig { bags = n.sig.bags ++ (record { argument = a; result = r; table = length n.sig.tables }) ∷ []; tables = n.sig.tables ++ t } }
 add n (place s) = record n { places = n.places ++ s ∷ [] }
 add n (tokens p e k) = record n { initial = slice_set n.initial (cell_at p e) k }
 add n (transition s) = record n { transitions = n.transitions ++ bare n.sig.sizes s ∷ [] }

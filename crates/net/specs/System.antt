@@ -1,6 +1,6 @@
 -- An algebraic system net as a plain value, and the one that parts in memory tell.
 use Rattle.std.specs.Prelude.{ℕ, ◌+◌, List, [], length, Option, None, map, option_map, sum_by, vec_items}
-use Rattle.term.specs.Meaning.{Sig, bag_said, operation_said}
+use Rattle.term.specs.Meaning.{Sig}
 use Rattle.format.specs.declared.command.Direction.{Direction}
 use Rattle.format.specs.declared.command.Direction.TheVariants.{In, Out}
 use Rattle.net.specs.declared.parts.Arc as arcs
@@ -95,7 +95,7 @@ transition_told t = record {
 -- the net that parts in memory tell
 abbrev pub told_by : Parts → SystemNet
 told_by p = record {
-  sig = record { sizes = vec_items p.sizes; operations = map operation_said (vec_items p.operations); bags = map bag_said (vec_items p.bags) };
+  sig = record { sizes = vec_items p.sizes; operations = vec_items p.operations; bags = vec_items p.bags; tables = vec_items p.tables };
   places = vec_items p.places;
   initial = p.initial;
   transitions = map transition_told (vec_items p.transitions);

@@ -6,7 +6,9 @@ use Rattle.domain.specs.Kinds.{kind_weighs}
 use Rattle.format.specs.Format.{combinations, depth, mode_count, most_modes, variable_sizes}
 use Rattle.term.specs.declared.signature.Arguments.{Arguments}
 use Rattle.term.specs.declared.signature.Arguments.TheVariants as arguments
-use Rattle.term.specs.Meaning.{BagOperation, Operation, Sig, bag_sorted, size_of, sorted}
+use Rattle.term.specs.declared.signature.BagOperation.{BagOperation}
+use Rattle.term.specs.declared.signature.Operation.{Operation}
+use Rattle.term.specs.Meaning.{Sig, bag_sorted, size_of, sorted}
 use Rattle.term.specs.Prefix.{bag_at, term_at}
 use Rattle.net.specs.declared.parts.Claim.{Claim}
 use Rattle.net.specs.Nets.{HasCell}
@@ -27,19 +29,19 @@ ArgumentsDeclared sizes arguments.None = Unit {0}
 ArgumentsDeclared sizes (arguments.One a) = Declared sizes a
 ArgumentsDeclared sizes (arguments.Two a b) = Declared sizes a × Declared sizes b
 
--- an operation has a result for each combination of its arguments: an element of its result sort
-pub record WellFormedOperation (sizes : List ℕ) (o : Operation) : Type 0 where
+-- an operation has within the tables a result for each combination of its arguments: an element of its result sort
+pub record WellFormedOperation (sizes tables : List ℕ) (o : Operation) : Type 0 where
   pub arguments : ArgumentsDeclared sizes o.arguments
   pub result : Declared sizes o.result
-  pub whole : length o.table ≡ combinations sizes o.arguments
-  pub results : All (λ e. e < size_of sizes o.result) o.table
+  pub within : o.table + combinations sizes o.arguments ≤ length tables
+  pub results : (i : ℕ) → i < combinations sizes o.arguments → slice_index tables (o.table + i) < size_of sizes o.result
 
--- a bag operation has for each argument a count for each element of its result sort, below 256
-pub record WellFormedBagOperation (sizes : List ℕ) (o : BagOperation) : Type 0 where
+-- a bag operation has within the tables for each argument a count for each element of its result sort, below 256
+pub record WellFormedBagOperation (sizes tables : List ℕ) (o : BagOperation) : Type 0 where
   pub argument : Declared sizes o.argument
   pub result : Declared sizes o.result
-  pub whole : length o.table ≡ size_of sizes o.argument * size_of sizes o.result
-  pub counts : Bytes o.table
+  pub within : o.table + size_of sizes o.argument * size_of sizes o.result ≤ length tables
+  pub counts : (i : ℕ) → i < size_of sizes o.argument * size_of sizes o.result → slice_index tables (o.table + i) < 256
 
 -- bytes are one term of the sort want, in variables of these sorts, and nothing else
 pub record IsTerm (s : Sig) (vars : List ℕ) (want : ℕ) (bs : List ℕ) : Type 0 where
@@ -96,9 +98,11 @@ pub record WellFormed (n : SystemNet) : Type 0 where
   pub inhabited : All (λ k. 1 ≤ k) n.sig.sizes
   pub sizes : All (λ k. k ≤ 64) n.sig.sizes
   pub few_operations : length n.sig.operations ≤ most_operations
-  pub operations : All (WellFormedOperation n.sig.sizes) n.sig.operations
+  pub operations : All (WellFormedOperation n.sig.sizes n.sig.tables) n.sig.operations
   pub few_bags : length n.sig.bags ≤ most_bag_operations
-  pub bags : All (WellFormedBagOperation n.sig.sizes) n.sig.bags
+  pub bags : All (WellFormedBagOperation n.sig.sizes n.sig.tables) n.sig.bags
+  -- what an operation gives past its own table is a byte too
+  pub tables : Bytes n.sig.tables
   pub few_places : length n.places ≤ most_places
   pub places : All (Declared n.sig.sizes) n.places
   -- the initial marking has 1,024 counts of 16 bits; one that is of no cell is 0

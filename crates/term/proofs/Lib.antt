@@ -1,7 +1,6 @@
 pub mod BagSteps
 pub mod Cuts
 pub mod Loads
-pub mod Lookups
 pub mod Placed
 pub mod Shapes
 pub mod Steps

@@ -5,9 +5,10 @@ use Rattle.std.proofs.lemmas.Bool.Decides.{nat_tests}
 use Rattle.term.specs.declared.fault.FileFault.{FileFault}
 use Rattle.term.specs.declared.signature.Arguments.{Arguments}
 use Rattle.term.specs.declared.signature.Arguments.TheVariants as arguments
+use Rattle.term.specs.declared.signature.Operation.{Operation}
 use Rattle.term.specs.Check.{Front, none, application_at, constant_at, equality_at, head_at, logic_at, variable_at}
 use Rattle.term.specs.Check as check
-use Rattle.term.specs.Meaning.{Operation, Sig, Term, variable, constant, apply, equal, negate, both, each, operation, size, sorted}
+use Rattle.term.specs.Meaning.{Sig, Term, variable, constant, apply, equal, negate, both, each, operation, size, sorted}
 use Rattle.term.specs.Prefix.{Read, applied, front, missing, one, term_at, two}
 use Rattle.term.specs.Shape.{Passed}
 use Rattle.term.proofs.Cuts.{shorter_by}

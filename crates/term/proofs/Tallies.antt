@@ -2,16 +2,17 @@
 use Rattle.std.proofs.Common.{◌≡◌, ℕ, ◌+◌, ◌-◌, ◌*◌, ◌^◌, ◌<◌, ◌≤◌, Bool, true, false, cond, eqb, ltb, List, length, get_or, min, set, take, drop, refl, sym, ap, ◌∙◌, arith}
 use Rattle.std.proofs.lemmas.Bool.Decides.{nat_tests}
 use Rattle.std.proofs.lemmas.List.{get_or-drop, get_or-set_other, get_or-set_same, get_or-take, get_or_past, length-take}
-use Rattle.term.specs.Meaning.{BagOperation, Sig, copies_in, no_bag, size}
+use Rattle.term.specs.declared.signature.BagOperation.{BagOperation}
+use Rattle.term.specs.Meaning.{Sig, copies_in, size}
 use Rattle.term.specs.Counts.{Added}
 use Rattle.term.specs.Tally.{Words}
 
 pub same_sum : (a b x y : ℕ) → a ≡ x → b ≡ y → a + b ≡ x + y
 same_sum a b x y p q = omega arith
 
--- the row of a bag operation, as far as its table goes
+-- the row of a bag operation, as far as the tables go
 abbrev pub row_of : Sig → BagOperation → ℕ → List ℕ
-row_of s o a = take (size s o.result) (drop (a * size s o.result) o.table)
+row_of s o a = take (size s o.result) (drop (o.table + a * size s o.result) s.tables)
 
 front : (n : ℕ) (xs : List ℕ) (i : ℕ) → get_or (take n xs) i 0 ≡ cond (ltb i n) (get_or xs i 0) 0
 front n xs i = by (ltb i n) refl
@@ -23,16 +24,9 @@ front n xs i = by (ltb i n) refl
 pub row_copies : (s : Sig) (o : BagOperation) (a : ℕ) (row : List ℕ) → row ≡ row_of s o a → (i : ℕ) → get_or row i 0 ≡ copies_in s o a i
 row_copies s o a row is i =
     let z = size s o.result in
-    ap (λ r. get_or r i 0) is ∙ front z (drop (a * z) o.table) i
-    ∙ ap (λ k. cond (ltb i z) k 0) (get_or-drop (a * z) o.table i 0)
-
--- nothing is in what a missing bag operation gives
-pub no_copies : (s : Sig) (a i : ℕ) → copies_in s no_bag a i ≡ 0
-no_copies s a i = by (ltb i (size s 0))
-  where
-    by : (b : Bool) → ◌≡◌ {A = ℕ} (cond b 0 0) 0
-    by true = refl
-    by false = refl
+    let from = o.table + a * z in
+    ap (λ r. get_or r i 0) is ∙ front z (drop from s.tables) i
+    ∙ ap (λ k. cond (ltb i z) k 0) (get_or-drop from s.tables i 0 ∙ ap (λ k. get_or s.tables k 0) (omega arith))
 
 -- counts to which tokens are added stay numbers of 32 bits
 pub words : (a b : List ℕ) (base : ℕ) (f : ℕ → ℕ) → length b ≡ length a → Words a → Added a b base f → Words b

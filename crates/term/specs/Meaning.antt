@@ -1,10 +1,10 @@
 -- Terms and bags over a signature, and what they mean in a mode.
-use Rattle.std.specs.Prelude.{ℕ, ◌+◌, ◌*◌, Bool, true, cond, ◌&&◌, List, [], length, map, vec_items, ◌==◌, nat_lt, slice_index, slice_index_or}
+use Rattle.std.specs.Prelude.{ℕ, ◌+◌, ◌*◌, Bool, true, cond, ◌&&◌, List, length, ◌==◌, nat_lt, slice_index, slice_index_or}
 use Rattle.domain.specs.Meaning.{longest_row}
 use Rattle.term.specs.declared.signature.Arguments.{Arguments}
 use Rattle.term.specs.declared.signature.Arguments.TheVariants as arguments
-use Rattle.term.specs.declared.signature.BagOperation as bags
-use Rattle.term.specs.declared.signature.Operation as operations
+use Rattle.term.specs.declared.signature.BagOperation.{BagOperation}
+use Rattle.term.specs.declared.signature.Operation.{Operation}
 use Rattle.term.specs.declared.signature.Signature.{Signature}
 
 -- a term; an argument that an operation does not have stands as the constant 0 of sort 0
@@ -23,42 +23,24 @@ pub data Bag : Type 0 where
   sum : Bag → Bag → Bag
   flexible : ℕ → Term → Bag
 
--- an operation: the sorts of its arguments and of its result, and its results, the first argument slowest
-pub record Operation : Type 0 where
-  pub arguments : Arguments
-  pub result : ℕ
-  pub table : List ℕ
-
--- a bag operation: for each argument a row of counts, one for each element of the result sort
-pub record BagOperation : Type 0 where
-  pub argument : ℕ
-  pub result : ℕ
-  pub table : List ℕ
-
--- sorts by their sizes, operations and bag operations
+-- sorts by their sizes, operations and bag operations, with the tables of both
 pub record Sig : Type 0 where
   pub sizes : List ℕ
   pub operations : List Operation
   pub bags : List BagOperation
-
--- what an operation in memory says
-abbrev pub operation_said : operations.Operation → Operation
-operation_said o = record { arguments = o.arguments; result = o.result; table = vec_items o.table }
-
-abbrev pub bag_said : bags.BagOperation → BagOperation
-bag_said o = record { argument = o.argument; result = o.result; table = vec_items o.table }
+  pub tables : List ℕ
 
 -- what a signature in memory says
 abbrev pub of : Signature → Sig
-of s = record { sizes = s.sizes.now; operations = map operation_said s.operations.now; bags = map bag_said s.bags.now }
+of s = record { sizes = s.sizes.now; operations = s.operations.now; bags = s.bags.now; tables = s.tables.now }
 
--- gives 0
+-- stands where an operation is missing
 abbrev pub no_operation : Operation
-no_operation = record { arguments = arguments.None; result = 0; table = [] }
+no_operation = record { arguments = arguments.None; result = 0; table = 0 }
 
--- gives nothing
+-- stands where a bag operation is missing
 abbrev pub no_bag : BagOperation
-no_bag = record { argument = 0; result = 0; table = [] }
+no_bag = record { argument = 0; result = 0; table = 0 }
 
 abbrev pub operation : Sig → ℕ → Operation
 operation s k = slice_index_or s.operations k no_operation
@@ -79,13 +61,13 @@ width s arguments.None = 1
 width s (arguments.One a) = 1
 width s (arguments.Two a b) = size s b
 
--- an operation's result
+-- an operation's result, the first argument slowest
 abbrev pub result : Sig → Operation → ℕ → ℕ → ℕ
-result s o a b = slice_index o.table (a * width s o.arguments + b)
+result s o a b = slice_index s.tables (o.table + (a * width s o.arguments + b))
 
 -- how often an element is in what a bag operation gives
 abbrev pub copies_in : Sig → BagOperation → ℕ → ℕ → ℕ
-copies_in s o a e = cond (nat_lt e (size s o.result)) (slice_index o.table (a * size s o.result + e)) 0
+copies_in s o a e = cond (nat_lt e (size s o.result)) (slice_index s.tables (o.table + (a * size s o.result + e))) 0
 
 abbrev pub truth : Bool → ℕ
 truth t = cond t 1 0

@@ -30,9 +30,8 @@ impl<'s> Evaluator<'s> {
             }
             [0x33, k, rest @ ..] => {
                 let (argument, rest) = self.value(rest, depth - 1);
-                if let Some(o) = self.signature.bag_operation(*k) {
-                    tally.add_row(self.signature.row(o, argument));
-                }
+                let o = self.signature.bag_operation(*k);
+                tally.add_row(self.signature.row(o, argument));
                 rest
             }
             _ => bytes,

@@ -56,9 +56,7 @@ impl<'s> Evaluator<'s> {
             }
             [0x22, k, rest @ ..] => {
                 *bytes = rest;
-                let Some(o) = self.signature.operation(*k) else {
-                    return 0;
-                };
+                let o = self.signature.operation(*k);
                 match o.arguments {
                     Arguments::None => self.signature.result(o, 0, 0),
                     Arguments::One(_) => {

@@ -1,10 +1,10 @@
 // The parts of a net as it is read, command by command.
-ghost use Rattle.std.specs.Prelude.{◌≡◌, ◌-◌, ◌^◌, min, IfOk, OnOk, slice_set, vec_items};
+ghost use Rattle.std.specs.Prelude.{◌≡◌, ◌-◌, ◌^◌, length, min, IfOk, OnOk, slice_set, vec_items};
 ghost use Rattle.term.specs.Meaning.{of};
 ghost use Rattle.format.specs.Commands.{arc, bag_operation, claim, element_weight, guard, operation, place_weight, said_of, tokens, transition};
 ghost use Rattle.format.specs.Format.{setting_of};
 ghost use Rattle.net.specs.Nets.{no_claim};
-ghost use Rattle.net.specs.Reading.{add, coded, empty, full, guarded, linked, newest, setting, unweighted};
+ghost use Rattle.net.specs.Reading.{add, coded, empty, full, guarded, linked, newest, setting, table_added, unweighted};
 ghost use Rattle.net.specs.System.{arc_count, arc_told, arcs_in, no_transition, told_by, transition_told};
 
 use super::{Arc, Claim, Parts, Transition};
@@ -85,6 +85,7 @@ impl Parts {
             sizes: vec![in heap; 2]?,
             operations: Vec::new(heap),
             bags: Vec::new(heap),
+            tables: Vec::new(heap),
             places: Vec::new(heap),
             initial: [0; CELLS],
             transitions: Vec::new(heap),
@@ -99,6 +100,7 @@ impl Parts {
         self.sizes.truncate(1);
         self.operations.clear();
         self.bags.clear();
+        self.tables.clear();
         self.places.clear();
         self.initial = [0; CELLS];
         self.transitions.clear();
@@ -138,6 +140,7 @@ impl Parts {
             sizes: self.sizes.as_slice(),
             operations: self.operations.as_slice(),
             bags: self.bags.as_slice(),
+            tables: self.tables.as_slice(),
         }
     }
 
@@ -170,6 +173,16 @@ impl Parts {
         self.claims.last().map_or(Kind::Equal, |c| c.kind)
     }
 
+    // Adds a table behind the others, and gives where it begins.
+    fn add_table(&mut self, table: &[u8]) -> Result<u32, AllocError>
+        ensures { IfOk result (λ from. (from ≡ length (told_by self.old).sig.tables) × (told_by self.new ≡ table_added table.now (told_by self.old))) }
+    {
+        // no file is so long that this fails
+        let from = u32::try_from(self.tables.len()).map_err(|_| AllocError)?;
+        self.tables.extend_from_slice(table)?;
+        Ok(from)
+    }
+
     fn add_operation(
         &mut self,
         arguments: Arguments,
@@ -178,11 +191,11 @@ impl Parts {
     ) -> Result<(), AllocError>
         ensures { OnOk result (told_by self.new ≡ add (told_by self.old) (operation arguments res table.now)) }
     {
-        let heap = *self.operations.allocator();
+        let table = self.add_table(table)?;
         self.operations.push(Operation {
             arguments,
             result: res,
-            table: table.to_vec(heap)?,
+            table,
         })?;
         Ok(())
     }
@@ -190,11 +203,11 @@ impl Parts {
     fn add_bag_operation(&mut self, argument: u8, res: u8, table: &[u8]) -> Result<(), AllocError>
         ensures { OnOk result (told_by self.new ≡ add (told_by self.old) (bag_operation argument res table.now)) }
     {
-        let heap = *self.bags.allocator();
+        let table = self.add_table(table)?;
         self.bags.push(BagOperation {
             argument,
             result: res,
-            table: table.to_vec(heap)?,
+            table,
         })?;
         Ok(())
     }

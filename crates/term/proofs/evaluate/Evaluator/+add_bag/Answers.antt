@@ -1,10 +1,9 @@
-use Rattle.std.proofs.Common.{◌≡◌, ◌+◌, ◌-◌, cond, eqb, get_or, take, drop, length, refl, sym, ap, ◌∙◌, arith, rules}
+use Rattle.std.proofs.Common.{◌≡◌, ◌+◌, ◌-◌, cond, eqb, get_or, take, drop, length, refl, ap, ◌∙◌, arith, rules}
 use Rattle.std.proofs.lemmas.Bool.Decides.{nat_tests}
-use Rattle.term.specs.Meaning.{bag_operation, bag_said, copies_in, count, largest_row, most_tokens, no_bag, of, value as value_of}
+use Rattle.term.specs.Meaning.{bag_operation, copies_in, count, largest_row, most_tokens, of, value as value_of}
 use Rattle.term.specs.Prefix.{term_at, bag_at}
 use Rattle.term.proofs.Cuts.{tail}
-use Rattle.term.proofs.Lookups.{absent, found}
-use Rattle.term.proofs.Tallies.{no_copies, row_copies, same_sum}
+use Rattle.term.proofs.Tallies.{row_copies, same_sum}
 use Rattle.term.proofs.Turns.{bag_none, at_empty, at_single, at_sum, at_flexible, at_other, first_part}
 use Rattle.term.proofs.evaluate.Evaluator.+add_bag.Goals as goal
 
@@ -57,8 +56,8 @@ returns-in-50 g t c =
       rest = c.add_bag.ensures.rest ∙ ap (λ x. (p x).1) e1;
     })
 
-pub returns-in-Some : goal.returns-in-Some
-returns-in-Some g t c =
+pub returns-in-51 : goal.returns-in-51
+returns-in-51 g t c =
     let s = of c.args.self.now.signature in
     let m = c.args.self.now.mode.now in
     let bs = c.args.bytes.now in
@@ -67,30 +66,11 @@ returns-in-Some g t c =
     c.value-argument.result.0 c.value-argument.result.1.now c.value-argument.ensures.value c.value-argument.ensures.rest in
     let a = c.value-argument.result.0 in
     let x = value_of s m (term_at s (c.args.depth - 1) (drop 2 bs)).0 in
-    let is = found _ _ _ k no_bag c.bag_operation.ensures _ c.in-Some.is in
     rw (at_flexible s c.args.depth bs (omega arith) (search rules) (search rules))
     (record {
       sum = g.met.T.Tally.laws.alike c.args.tally.now c.add_row.new.self (λ i. get_or c.row.result.now i 0) (copies_in s (bag_operation s k) x) largest_row largest_row
-          (λ i. row_copies s (bag_said c.in-Some.o.now) a c.row.result.now c.row.ensures.value i ∙ ap (λ o. copies_in s o a i) is ∙ ap (λ z. copies_in s (bag_operation s k) z i) q.0)
+          (λ i. row_copies s c.bag_operation-o.result a c.row.result.now c.row.ensures.value i ∙ ap (λ o. copies_in s o a i) c.bag_operation-o.ensures ∙ ap (λ z. copies_in s (bag_operation s k) z i) q.0)
           (omega arith) c.add_row.ensures;
-      rest = q.1;
-    })
-
-pub returns-in_default-bag_operation : goal.returns-in_default-bag_operation
-returns-in_default-bag_operation g t c =
-    let s = of c.args.self.now.signature in
-    let m = c.args.self.now.mode.now in
-    let bs = c.args.bytes.now in
-    let k = get_or bs 1 0 in
-    let q = first_part (term_at s (c.args.depth - 1)) (value_of s m) (drop 2 bs) _ (tail 2 bs)
-    c.value-argument.result.0 c.value-argument.result.1.now c.value-argument.ensures.value c.value-argument.ensures.rest in
-    let x = value_of s m (term_at s (c.args.depth - 1) (drop 2 bs)).0 in
-    let none = absent _ _ _ k no_bag c.bag_operation.ensures c.in_default-bag_operation.is in
-    rw (at_flexible s c.args.depth bs (omega arith) (search rules) (search rules))
-    (record {
-      sum = g.met.T.Tally.laws.alike c.args.tally.now c.args.tally.now (λ i. 0) (copies_in s (bag_operation s k) x) 0 largest_row
-          (λ i. sym (ap (λ o. copies_in s o x i) none ∙ no_copies s x i))
-          (omega arith) (g.met.T.Tally.laws.nothing c.args.tally.now);
       rest = q.1;
     })
 

@@ -1,10 +1,9 @@
 use Rattle.std.proofs.Common.{◌≡◌, ℕ, ◌-◌, Bool, true, false, ◌&&◌, eqb, get_or, drop, sym, refl, ap, ◌∙◌, arith, rules}
 use Rattle.std.specs.Int.{from_bool}
 use Rattle.std.proofs.lemmas.Bool.Decides.{nat_tests}
-use Rattle.term.specs.Meaning.{of, value as value_of, result as result_of, truth, no_operation, operation as op_of}
+use Rattle.term.specs.Meaning.{of, value as value_of, result as result_of, truth, operation as op_of}
 use Rattle.term.specs.Prefix.{term_at}
 use Rattle.term.proofs.Cuts.{tail}
-use Rattle.term.proofs.Lookups.{absent, found}
 use Rattle.term.proofs.Turns.{none, at_nothing, at_variable, at_constant, at_apply, at_equal, at_negate, at_both, first_part, both_parts}
 use Rattle.term.proofs.evaluate.Evaluator.+terms.Goals as goal
 
@@ -48,17 +47,10 @@ next_other-returns-after-a-eq1 t c =
     rw (at_both (of c.args.self.now.signature) c.args.depth c.args.bytes.now.now (omega arith) (search rules) (search rules))
     (record { value = both ∙ same_two (λ x y. truth (eqb x 1 && eqb y 1)) _ _ _ _ q.0 q.1; rest = q.2 })
 
-pub next_other-returns-in_default-operation : goal.next_other-returns-in_default-operation
-next_other-returns-in_default-operation t c =
-    let s = of c.args.self.now.signature in
-    let none = absent _ _ _ (get_or c.args.bytes.now.now 1 0) no_operation c.operation.ensures c.in_default-operation.is in
-    rw (at_apply s c.args.depth c.args.bytes.now.now (omega arith) (search rules) (search rules), ap (λ o. o.arguments) none)
-    (record { value = sym (ap (λ o. result_of s o 0 0) none); rest = tail 2 c.args.bytes.now.now })
-
 pub next_other-returns-in-None : goal.next_other-returns-in-None
 next_other-returns-in-None t c =
     let s = of c.args.self.now.signature in
-    let is = found _ _ _ (get_or c.args.bytes.now.now 1 0) no_operation c.operation.ensures _ c.in-Some.is in
+    let is = c.operation-o.ensures in
     rw (at_apply s c.args.depth c.args.bytes.now.now (omega arith) (search rules) (search rules), sym (ap (λ o. o.arguments) is) ∙ c.in-None.is)
     (record { value = c.result.ensures ∙ ap (λ o. result_of s o 0 0) is; rest = tail 2 c.args.bytes.now.now })
 
@@ -66,7 +58,7 @@ pub next_other-returns-in-One : goal.next_other-returns-in-One
 next_other-returns-in-One t c =
     let s = of c.args.self.now.signature in
     let k = get_or c.args.bytes.now.now 1 0 in
-    let is = found _ _ _ k no_operation c.operation.ensures _ c.in-Some.is in
+    let is = c.operation-o.ensures in
     let q = first_part (term_at s (c.args.depth - 1)) (value_of s c.args.self.now.mode.now) (drop 2 c.args.bytes.now.now) _ (tail 2 c.args.bytes.now.now)
     c.next-a-in-One.result c.next-a-in-One.new.bytes.now c.next-a-in-One.ensures.value c.next-a-in-One.ensures.rest in
     rw (at_apply s c.args.depth c.args.bytes.now.now (omega arith) (search rules) (search rules), sym (ap (λ o. o.arguments) is) ∙ c.in-One.is)
@@ -76,7 +68,7 @@ pub next_other-returns-in-Two : goal.next_other-returns-in-Two
 next_other-returns-in-Two t c =
     let s = of c.args.self.now.signature in
     let k = get_or c.args.bytes.now.now 1 0 in
-    let is = found _ _ _ k no_operation c.operation.ensures _ c.in-Some.is in
+    let is = c.operation-o.ensures in
     let q = both_parts (term_at s (c.args.depth - 1)) (value_of s c.args.self.now.mode.now) (drop 2 c.args.bytes.now.now) _ (tail 2 c.args.bytes.now.now)
     c.next-a-in-Two.result c.next-b-in-Two.result c.next-a-in-Two.new.bytes.now c.next-b-in-Two.new.bytes.now
     c.next-a-in-Two.ensures.value c.next-a-in-Two.ensures.rest c.next-b-in-Two.ensures.value c.next-b-in-Two.ensures.rest in
