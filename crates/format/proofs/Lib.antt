@@ -1,2 +1,3 @@
 pub mod Claims
+pub mod Local
 pub mod Terms

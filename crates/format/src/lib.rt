@@ -2,7 +2,7 @@
 #![tactic(auto)]
 
 mod command;
-mod operands;
+pub mod operands;
 mod section;
 
 pub use command::{Code, Command, Direction, NoCode};

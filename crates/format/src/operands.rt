@@ -14,7 +14,7 @@ use term::{Arguments, Checker, Fault, FileFault, Stage};
 pub const DEPTH: u8 = 16;
 
 // The most modes that a transition may have.
-const MODES: u32 = 65536;
+pub const MODES: u32 = 65536;
 
 // A command and what follows it.
 type Parsed<'f> = Result<(Command<'f>, &'f [u8]), FileFault>;
@@ -34,7 +34,7 @@ pub fn refused(fault: Fault, place: usize) -> FileFault
 }
 
 // The size of a sort, 0 where it is not declared.
-fn size(sizes: &[u8], sort: u8) -> u8
+pub fn size(sizes: &[u8], sort: u8) -> u8
     ensures { result ≡ size_of sizes.now sort }
 {
     sizes.get(sort as usize).copied().unwrap_or(0)
@@ -156,7 +156,7 @@ impl<'a> Context<'a> {
 
     // size, 1 to 64
     fn sort<'f>(&self, bytes: &'f [u8]) -> Parsed<'f>
-        ensures { Reads bytes.now result (sort_at bytes.now self.now.checker.ends) }
+        ensures { Reads self.now bytes.now result (sort_at bytes.now self.now.checker.ends) }
     {
         match bytes {
             [_, size, ..] if !(1..=64).contains(size) => self.out_of_range(bytes, 1),
@@ -187,7 +187,7 @@ impl<'a> Context<'a> {
 
     // number of arguments, two argument sorts, result sort, one result for each combination of arguments
     fn operation<'f>(&self, bytes: &'f [u8]) -> Parsed<'f>
-        ensures { Reads bytes.now result (operation_at self.now.checker.signature.sizes.now bytes.now self.now.checker.ends) }
+        ensures { Reads self.now bytes.now result (operation_at self.now.checker.signature.sizes.now bytes.now self.now.checker.ends) }
     {
         let sizes = self.checker.signature.sizes;
         match bytes {
@@ -218,7 +218,7 @@ impl<'a> Context<'a> {
 
     // argument sort, result sort, for each argument one count for each element of the result sort
     fn bag_operation<'f>(&self, bytes: &'f [u8]) -> Parsed<'f>
-        ensures { Reads bytes.now result (bag_operation_at self.now.checker.signature.sizes.now bytes.now self.now.checker.ends) }
+        ensures { Reads self.now bytes.now result (bag_operation_at self.now.checker.signature.sizes.now bytes.now self.now.checker.ends) }
     {
         let sizes = self.checker.signature.sizes;
         match bytes {
@@ -240,7 +240,7 @@ impl<'a> Context<'a> {
 
     // sort
     fn place<'f>(&self, bytes: &'f [u8]) -> Parsed<'f>
-        ensures { Reads bytes.now result (place_at self.now.checker.signature.sizes.now bytes.now self.now.checker.ends) }
+        ensures { Reads self.now bytes.now result (place_at self.now.checker.signature.sizes.now bytes.now self.now.checker.ends) }
     {
         match bytes {
             [_, sort, ..] if *sort as usize >= self.checker.signature.sizes.len() =>
@@ -252,7 +252,7 @@ impl<'a> Context<'a> {
 
     // place, element, two-byte count
     fn tokens<'f>(&self, bytes: &'f [u8]) -> Parsed<'f>
-        ensures { Reads bytes.now result (tokens_at self.now.checker.signature.sizes.now self.now.places.now bytes.now self.now.checker.ends) }
+        ensures { Reads self.now bytes.now result (tokens_at self.now.checker.signature.sizes.now self.now.places.now bytes.now self.now.checker.ends) }
     {
         match bytes {
             [_, place, ..] if self.lacks_place(*place) => self.out_of_range(bytes, 1),
@@ -273,7 +273,7 @@ impl<'a> Context<'a> {
 
     // number of variables, four sorts; the modes are counted at the last sort byte
     fn transition<'f>(&self, bytes: &'f [u8]) -> Parsed<'f>
-        ensures { Reads bytes.now result (transition_at self.now.checker.signature.sizes.now bytes.now self.now.checker.ends) }
+        ensures { Reads self.now bytes.now result (transition_at self.now.checker.signature.sizes.now bytes.now self.now.checker.ends) }
     {
         let sizes = self.checker.signature.sizes;
         match bytes {
@@ -297,7 +297,7 @@ impl<'a> Context<'a> {
 
     // a term of sort 0
     fn guard<'f>(&self, bytes: &'f [u8]) -> Parsed<'f>
-        ensures { Reads bytes.now result (guard_at (of self.now.checker.signature) self.now.checker.variables.now bytes.now self.now.checker.ends) }
+        ensures { Reads self.now bytes.now result (guard_at (of self.now.checker.signature) self.now.checker.variables.now bytes.now self.now.checker.ends) }
     {
         match bytes {
             [_, term @ ..] => {
@@ -313,7 +313,7 @@ impl<'a> Context<'a> {
 
     // place, a bag over its sort
     fn arc<'f>(&self, direction: Direction, bytes: &'f [u8]) -> Parsed<'f>
-        ensures { Reads bytes.now result (arc_at (of self.now.checker.signature) self.now.places.now direction self.now.checker.variables.now bytes.now self.now.checker.ends) }
+        ensures { Reads self.now bytes.now result (arc_at (of self.now.checker.signature) self.now.places.now direction self.now.checker.variables.now bytes.now self.now.checker.ends) }
     {
         match bytes {
             [_, place, ..] if self.lacks_place(*place) => self.out_of_range(bytes, 1),
@@ -333,7 +333,7 @@ impl<'a> Context<'a> {
 
     // kind, 1 to 6, two-byte modulus, which is 0 but for kind 4
     fn claim<'f>(&self, bytes: &'f [u8]) -> Parsed<'f>
-        ensures { Reads bytes.now result (claim_at bytes.now self.now.checker.ends) }
+        ensures { Reads self.now bytes.now result (claim_at bytes.now self.now.checker.ends) }
     {
         match bytes {
             [_, kind, ..] if *kind < 1 || *kind > 6 => self.out_of_range(bytes, 1),
@@ -350,7 +350,7 @@ impl<'a> Context<'a> {
 
     // place, four-byte signed code
     fn place_weight<'f>(&self, bytes: &'f [u8]) -> Parsed<'f>
-        ensures { Reads bytes.now result (place_weight_at self.now.places.now self.now.kind bytes.now self.now.checker.ends) }
+        ensures { Reads self.now bytes.now result (place_weight_at self.now.places.now self.now.kind bytes.now self.now.checker.ends) }
     {
         match bytes {
             [_, place, ..] if self.lacks_place(*place) => self.out_of_range(bytes, 1),
@@ -371,7 +371,7 @@ impl<'a> Context<'a> {
 
     // place, element, four-byte signed code
     fn element_weight<'f>(&self, bytes: &'f [u8]) -> Parsed<'f>
-        ensures { Reads bytes.now result (element_weight_at self.now.checker.signature.sizes.now self.now.places.now self.now.kind bytes.now self.now.checker.ends) }
+        ensures { Reads self.now bytes.now result (element_weight_at self.now.checker.signature.sizes.now self.now.places.now self.now.kind bytes.now self.now.checker.ends) }
     {
         match bytes {
             [_, place, ..] if self.lacks_place(*place) => self.out_of_range(bytes, 1),
@@ -396,7 +396,7 @@ impl<'a> Context<'a> {
 
     // nothing, and nothing may follow
     fn end<'f>(&self, bytes: &'f [u8]) -> Parsed<'f>
-        ensures { Reads bytes.now result (end_at bytes.now self.now.checker.ends) }
+        ensures { Reads self.now bytes.now result (end_at bytes.now self.now.checker.ends) }
     {
         match bytes {
             [_, _, ..] => Err(FileFault {
@@ -417,7 +417,7 @@ impl<'a> Context<'a> {
 
     // The command of the given code at the front of `bytes`, with its operands, and what follows it.
     pub fn parse<'f>(&self, code: Code, bytes: &'f [u8]) -> Parsed<'f>
-        ensures { Reads bytes.now result (parse_at (setting_of self.now) code bytes.now) }
+        ensures { Reads self.now bytes.now result (parse_at (setting_of self.now) code bytes.now) }
     {
         match code {
             Code::Sort => self.sort(bytes),

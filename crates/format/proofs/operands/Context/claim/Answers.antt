@@ -11,7 +11,7 @@ returns-in_default-from_number c =
     let low : 1 ≤ get_or c.args.bytes.now 1 0 = search rules in
     let high : get_or c.args.bytes.now 1 0 ≤ 6 = search rules in
     let small : c.from_be_bytes-modulus.result ≤ 65535 = search rules in
-    (grind (arith, nat_tests, no_kind (get_or c.args.bytes.now 1 0) c.from_be_bytes-modulus.result low high small c.in_default-from_number.ensures), tt)
+    (grind (arith, nat_tests, no_kind (get_or c.args.bytes.now 1 0) c.from_be_bytes-modulus.result low high small c.in_default-from_number.ensures), tt, tt)
 
 pub returns-in-Some : goal.returns-in-Some
 returns-in-Some c =
@@ -23,4 +23,4 @@ returns-in-Some c =
     let h : Numbered x n m = (c.in-Some.ensures.0, sym same ∙ c.in-Some.ensures.1) in
     let low : 1 ≤ n = search rules in
     let high : n ≤ 6 = search rules in
-    (grind (arith, nat_tests, kind_is x n m h, kind_fits x n m h, tail 4 bs), omega (arith, tail_shorter 4 bs (lit< tt) (search rules)))
+    (grind (arith, nat_tests, kind_is x n m h, kind_fits x n m h, tail 4 bs), omega (arith, tail_shorter 4 bs (lit< tt) (search rules)), tt)
