@@ -4,7 +4,7 @@ mod methods;
 
 // What a firing takes from each cell, and what it puts there: two lists, since a net counts one side at a time.
 #[derive(Drop)]
-pub(crate) struct Change {
-    pub(crate) takes: [u32; CELLS],
-    pub(crate) puts: [u32; CELLS],
+pub struct Change {
+    pub takes: [u32; CELLS],
+    pub puts: [u32; CELLS],
 }

@@ -7,6 +7,7 @@ mod counts;
 mod moves;
 
 pub use bench::Bench;
+pub use change::Change;
 pub use counts::{Counts, measure};
 pub use moves::{back_on, begin_on, fire_on};
 pub use net::Firing;

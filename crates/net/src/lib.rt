@@ -3,8 +3,8 @@
 
 mod firing;
 mod net;
-mod parts;
-mod reader;
+pub mod parts;
+pub mod reader;
 
 pub use firing::Firing;
 pub use net::{CELLS, Net};

@@ -11,7 +11,7 @@ use std::alloc::{AllocError, Global};
 use term::{Fault, FileFault, Stage};
 
 // The longest file.
-const LONGEST: usize = 65536;
+pub const LONGEST: usize = 65536;
 
 // Why a net was not read: a fault in its file, or want of memory.
 #[derive(Clone, Copy, PartialEq, Eq, Debug)]
@@ -38,7 +38,7 @@ impl From<AllocError> for ReadError {
 
 // How far a file has been read: the order of its sections, and what is left.
 #[derive(Drop)]
-struct Reader<'f> {
+pub struct Reader<'f> {
     order: Order,
     rest: &'f [u8],
     ends: usize,

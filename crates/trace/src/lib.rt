@@ -1,9 +1,9 @@
 // Traces: what was done on a bench, replayed and recorded.
 #![tactic(auto)]
 
-mod commands;
+pub mod commands;
 mod recording;
-mod replays;
+pub mod replays;
 
 pub use commands::Command;
 pub use recording::{EndedRecording, OpenRecording};

@@ -16,7 +16,7 @@ use net::Net;
 use term::Fault;
 
 // The longest trace, by a rule of its own.
-pub(crate) const LONGEST: usize = 65536;
+pub const LONGEST: usize = 65536;
 
 // Where a replay stopped: the fault, and the cell or the byte that it names, else 0.
 #[derive(Clone, Copy, PartialEq, Eq, Debug)]

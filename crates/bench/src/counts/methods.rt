@@ -28,7 +28,7 @@ impl<'c> Counts<'c> {
     }
 
     // The lowest cell that has less than is to be taken.
-    pub(crate) fn lacking(&self, change: &Change) -> Option<usize>
+    pub fn lacking(&self, change: &Change) -> Option<usize>
         ensures { elim result [ Some c ↦ (c < CELLS) × (tokens self.now c < slice_index change.now.takes c) × ((k : ℕ) → k < c → slice_index change.now.takes k ≤ tokens self.now k) | None ↦ ((k : ℕ) → k < CELLS → slice_index change.now.takes k ≤ tokens self.now k) ] }
     {
         self.cells
@@ -38,7 +38,7 @@ impl<'c> Counts<'c> {
     }
 
     // The lowest cell that would pass 65,535 once the tokens are taken and put.
-    pub(crate) fn passing(&self, change: &Change) -> Option<usize>
+    pub fn passing(&self, change: &Change) -> Option<usize>
         ensures { elim result [ Some c ↦ (c < CELLS) × (largest_count < changed self.now change.now c) × ((k : ℕ) → k < c → changed self.now change.now k ≤ largest_count) | None ↦ ((k : ℕ) → k < CELLS → changed self.now change.now k ≤ largest_count) ] }
     {
         self.cells
@@ -51,7 +51,7 @@ impl<'c> Counts<'c> {
     }
 
     // Makes a change of the counts; what passes 65,535 is held at it.
-    pub(crate) fn shift(&mut self, change: &Change)
+    pub fn shift(&mut self, change: &Change)
         ensures shifted { (k : ℕ) → k < CELLS → tokens self.new k ≡ min (changed self.old change.now k) largest_count }
         ensures loan { loan self.new ≡ loan self.old }
     {
@@ -63,7 +63,7 @@ impl<'c> Counts<'c> {
     }
 
     // Makes the counts those of a marking.
-    pub(crate) fn reset(&mut self, start: &[u16; CELLS])
+    pub fn reset(&mut self, start: &[u16; CELLS])
         ensures value { (k : ℕ) → k < CELLS → tokens self.new k ≡ slice_index start.now k }
         ensures small { (k : ℕ) → k < CELLS → tokens self.new k ≤ largest_count }
         ensures loan { loan self.new ≡ loan self.old }
