@@ -4,6 +4,8 @@ use Rattle.std.specs.Fmt.{decimal}
 use Rattle.term.specs.Faults.{number_of, word_of}
 use Rattle.term.specs.declared.fault.FileFault.{FileFault}
 use Rattle.judge.specs.Kinds.{Outcome}
+use Rattle.report.specs.declared.memory.NoMemory.{NoMemory}
+use Rattle.report.specs.declared.memory.NoMemory.TheVariants as no_memory
 use Rattle.trace.specs.declared.replays.Replayed.{Replayed}
 use Rattle.trace.specs.declared.replays.Stop.{Stop}
 
@@ -35,3 +37,8 @@ replay_line r = ended r.carried r.stop
 -- cell CELL COUNT
 abbrev pub cell_line : ℕ → ℕ → List ℕ
 cell_line cell count = spaced (codes "cell" ∷ decimal cell ∷ decimal count ∷ [])
+
+-- why there is no report, as the program prints it on standard error behind "Error: "
+abbrev pub want_line : NoMemory → List ℕ
+want_line no_memory.Net = codes "out of memory"
+want_line no_memory.Other = codes "memory allocation failed"
