@@ -155,15 +155,15 @@ fn cells_of_a_bench(rt: HostRuntime) -> Result<(), Fail> {
 }
 
 // The value of the marking on a bench, by the codes of a claim.
-fn value(codes: &[i32; CELLS], bench: &Bench) -> i64 {
+fn value(codes: &[i32; CELLS], bench: &Bench) -> Result<i64, Fault> {
     let mut sum: i64 = 0;
     for (cell, code) in codes.iter().enumerate() {
         if *code != 0 {
-            let count = bench.count(cell).unwrap_or(0);
+            let count = bench.count(cell)?;
             sum = sum.saturating_add(i64::from(*code).saturating_mul(i64::from(count)));
         }
     }
-    sum
+    Ok(sum)
 }
 
 // Makes random calls on a new bench, checks after each that a claim's value is `want`, and gives how many calls were
@@ -174,7 +174,7 @@ fn check_random(rt: &impl Abort, net: &Net, codes: &[i32; CELLS], want: i64) -> 
     let mut trail = LentList::new(&mut memory);
     let mut counts = Counts { cells: &mut cells };
     let mut bench = Bench::begin(net, &mut counts, &mut trail);
-    assert_eq!(rt; value(codes, &bench), want);
+    assert_eq!(rt; value(codes, &bench), Ok(want));
     let mut seed: u32 = 1;
     let mut carried: u32 = 0;
     for i in 0..1000 {
@@ -187,7 +187,7 @@ fn check_random(rt: &impl Abort, net: &Net, codes: &[i32; CELLS], want: i64) -> 
         if make(&mut bench, call).is_ok() {
             carried = carried.saturating_add(1);
         }
-        assert_eq!(rt; value(codes, &bench), want, "{}", i);
+        assert_eq!(rt; value(codes, &bench), Ok(want), "{}", i);
     }
     carried
 }

@@ -33,15 +33,35 @@ fn check_cap<M: Measuring>(rt: &impl Abort, net: &Net, cell: usize, m: &M, want:
     assert_eq!(rt; cap_of(judge.cap(0, cell, m)), want);
 }
 
+// Checks verdicts and caps of a channel that is kept, one after the other on the same memory.
+fn check_kept(rt: &impl Abort, net: &Net, lent: &mut Lent) {
+    let mut judge = lent.judge(net);
+    assert_eq!(rt; judge.judge(0, &Equal), Ok(broken(1, 1, 0)));
+    assert_eq!(rt; judge.judge(0, &Siphon), Ok(Ok(4)));
+    assert_eq!(rt; cap_of(judge.cap(0, 64, &Siphon)), Ok(None));
+    assert_eq!(rt; cap_of(judge.cap(0, 64, &Equal)), Err(16));
+}
+
+// Checks the refusals of a code that is no weight of the domain, or none that is plain, on the same memory too.
+fn check_refused(rt: &impl Abort, net: &Net, lent: &mut Lent) {
+    let mut judge = lent.judge(net);
+    assert_eq!(rt; judge.judge(0, &Siphon), Err(Fault::NoWeight));
+    assert_eq!(rt; cap_of(judge.cap(0, 0, &Siphon)), Err(14));
+    assert_eq!(rt; cap_of(judge.cap(0, 0, &Equal)), Err(15));
+}
+
 #[test]
 fn under_a_given_domain(rt: HostRuntime) -> Result<(), Fail> {
-    // a channel that is kept; the kind of the claim plays no part
+    let mut lent = Lent::new();
+    // the kind of the claim plays no part
     let kept = changed(rt.alloc(), 63, 73, "0A050000")?;
     let net = net_of(rt.alloc(), kept.as_slice())?;
-    check_verdict(&rt, &net, &Equal, Ok(broken(1, 1, 0)));
-    check_verdict(&rt, &net, &Siphon, Ok(Ok(4)));
-    check_cap(&rt, &net, 64, &Siphon, Ok(None));
-    check_cap(&rt, &net, 64, &Equal, Err(16));
+    check_kept(&rt, &net, &mut lent);
+    let two = changed(rt.alloc(), 73, 85, "0C0000FFFFFFFE")?;
+    let net = net_of(rt.alloc(), two.as_slice())?;
+    lent.before[3] = 9;
+    check_refused(&rt, &net, &mut lent);
+    assert_eq!(rt; (lent.codes[0], lent.codes[1], lent.before[3]), (-2, 0, 9));
     Ok(())
 }
 

@@ -119,10 +119,11 @@ const KINDS: &[(&str, bool)] = &[
     ("0A060000", true),
 ];
 
-// Checks the codes that the small net's claim leaves at the last cell of one place and at the first past it.
-fn check_codes(rt: &impl Abort, at: &str, lent: &Lent, last: usize, code: i32) {
-    let left = (lent.codes.get(last), lent.codes.get(last.saturating_add(1)));
-    assert_eq!(rt; left, (Some(&code), Some(&0)), "{at}");
+// Checks the codes that the small net's claim leaves at the cells of each place and at the first past them.
+fn check_codes(rt: &impl Abort, at: &str, codes: &[i32; CELLS]) {
+    assert_eq!(rt; (codes[0], codes[1], codes[2]), (0, 0, 0), "{at}");
+    assert_eq!(rt; (codes[64], codes[65], codes[66]), (1, 1, 0), "{at}");
+    assert_eq!(rt; (codes[128], codes[129]), (1, 0), "{at}");
 }
 
 // Checks that one token of the channel's is left before, and one of cell 0 after, or none.
@@ -138,9 +139,7 @@ fn check_kept(rt: &impl Abort, at: &str, net: &Net, want: Outcome, many: u32) {
     let mut lent = Lent::new();
     let mut judge = lent.judge(net);
     assert_eq!(rt; judge.judge_by_kind(0), Ok(want), "{at}");
-    check_codes(rt, at, &lent, 1, 0);
-    check_codes(rt, at, &lent, 65, 1);
-    check_codes(rt, at, &lent, 128, 1);
+    check_codes(rt, at, &lent.codes);
     check_counts(rt, at, &lent, many);
 }
 
