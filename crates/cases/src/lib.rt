@@ -3,6 +3,8 @@
 
 pub mod nets;
 #[cfg(test)]
+mod operations;
+#[cfg(test)]
 mod reading;
 #[cfg(test)]
 mod tables;

@@ -113,6 +113,7 @@ applied_cut : (p : List ℕ → Read) (k : ℕ) (a : Arguments) (bs : List ℕ) 
 applied_cut p k arguments.None bs h c = leaf 2 (apply k missing missing) bs h
 applied_cut p k (arguments.One a) bs h c = one_cut 2 p (λ x. apply k x missing) bs h c
 applied_cut p k (arguments.Two a b) bs h c = two_cut 2 p (apply k) bs h c
+applied_cut p k (arguments.More a b) bs h c = two_cut 2 p (apply k) bs h c
 
 front_cut : (s : Sig) (p : List ℕ → Read) → ((l : List ℕ) → Cut p 0 l) → (bs : List ℕ) → Cut (front s p) 0 bs
 front_cut s p c bs =

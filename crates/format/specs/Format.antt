@@ -85,6 +85,7 @@ abbrev pub combinations : List ℕ → Arguments → ℕ
 combinations sizes arguments.None = 1
 combinations sizes (arguments.One a) = size_of sizes a
 combinations sizes (arguments.Two a b) = size_of sizes a * size_of sizes b
+combinations sizes (arguments.More a b) = size_of sizes a * size_of sizes b
 
 -- an operation: number of arguments, two argument sorts, result sort, a result for each combination of arguments
 abbrev pub operation_at : List ℕ → List ℕ → ℕ → Read

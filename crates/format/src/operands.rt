@@ -86,7 +86,9 @@ fn rows(sizes: &[u8], arguments: Arguments) -> usize
     match arguments {
         Arguments::None => 1,
         Arguments::One(a) => size(sizes, a) as usize,
-        Arguments::Two(a, b) => size(sizes, a) as usize * size(sizes, b) as usize,
+        Arguments::Two(a, b) | Arguments::More(a, b) => {
+            size(sizes, a) as usize * size(sizes, b) as usize
+        }
     }
 }
 

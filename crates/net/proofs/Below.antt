@@ -1,5 +1,5 @@
 -- A term of a sort has an element of that sort as its value, and a bag over a sort has nothing outside it.
-use Rattle.std.proofs.Common.{◌≡◌, ℕ, zero, suc, ◌+◌, ◌*◌, ◌<◌, ◌≤◌, Bool, true, false, ◌&&◌, eqb, ltb, List, length, get_or, drop, refl, sym, ap, ◌∙◌, arith, eqb-true, le-ltb, ltb-true, ne_eqb}
+use Rattle.std.proofs.Common.{◌≡◌, ℕ, zero, suc, ◌+◌, ◌*◌, ◌<◌, ◌≤◌, Bool, true, false, ◌&&◌, eqb, ltb, List, length, get_or, drop, refl, sym, ap, ◌∙◌, subst, arith, eqb-true, le-ltb, ltb-true, ne_eqb}
 use Rattle.std.specs.List.{All}
 use Rattle.std.proofs.lemmas.Nat.{mul-add-lt}
 use Rattle.std.proofs.lemmas.Bool.{and_parts, cond_both}
@@ -8,19 +8,21 @@ use Rattle.term.specs.Meaning.{Bag, Sig, Term, apply, bag_operation, bag_sorted,
 use Rattle.term.specs.Prefix.{Read, ReadBag, applied, bag_at, begins, missing, term_at}
 use Rattle.term.specs.declared.signature.Arguments.{Arguments}
 use Rattle.term.specs.declared.signature.Arguments.TheVariants as arguments
-use Rattle.net.specs.WellFormed.{WellFormedOperation}
+use Rattle.net.specs.WellFormed.{ArgumentsDeclared, WellFormedOperation}
 
 -- values of the arguments that there are, 0 for the others
 abbrev Among : Sig → Arguments → ℕ → ℕ → Type 0
 Among s arguments.None x y = (x ≡ 0) × (y ≡ 0)
 Among s (arguments.One a) x y = (x < size s a) × (y ≡ 0)
 Among s (arguments.Two a b) x y = (x < size s a) × (y < size s b)
+Among s (arguments.More a b) x y = (x < size s a) × (y < size s b)
 
--- they name a result
-inside : (s : Sig) (a : Arguments) (x y : ℕ) → Among s a x y → x * width s a + y < combinations s.sizes a
-inside s arguments.None x y h = let p = h.0 in let q = h.1 in omega arith
-inside s (arguments.One a) x y h = let p = h.0 in let q = h.1 in omega arith
-inside s (arguments.Two a b) x y h = omega (arith, mul-add-lt x (size s b) y (size s a) h.0 h.1)
+-- they name a result, for there are at most two
+inside : (s : Sig) (a : Arguments) (x y : ℕ) → ArgumentsDeclared s.sizes a → Among s a x y → x * width s a + y < combinations s.sizes a
+inside s arguments.None x y d h = let p = h.0 in let q = h.1 in omega arith
+inside s (arguments.One a) x y d h = let p = h.0 in let q = h.1 in omega arith
+inside s (arguments.Two a b) x y d h = omega (arith, mul-add-lt x (size s b) y (size s a) h.0 h.1)
+inside s (arguments.More a b) x y d h = absurd d
 
 pub truth_below : (t : Bool) → truth t < 2
 truth_below true = omega arith
@@ -33,7 +35,7 @@ module _ (s : Sig) (well_formed : All (WellFormedOperation s.sizes s.tables) s.o
       let at = x * width s (operation s k).arguments + y in
       let e = ap (λ l. x * width s l + y) z in
       let f = ap (combinations s.sizes) z in
-      let i = inside s a x y h in
+      let i = inside s a x y (subst (ArgumentsDeclared s.sizes) z o.arguments) h in
       o.results at (omega (arith, e, f, i))
 
   -- if it is of the sort, its value is one of the sort's elements
@@ -70,6 +72,7 @@ module _ (s : Sig) (well_formed : All (WellFormedOperation s.sizes s.tables) s.o
   kept_applied p f w k r arguments.None z = kept_apply w k _ z missing missing (λ e. (omega arith, omega arith))
   kept_applied p f w k r (arguments.One a) z = kept_apply w k _ z (p r).0 missing (λ e. (f a r e, omega arith))
   kept_applied p f w k r (arguments.Two a b) z = kept_apply w k _ z (p r).0 (p (p r).1).0 (λ e. let q = and_parts _ _ e in (f a r q.0, f b (p r).1 q.1))
+  kept_applied p f w k r (arguments.More a b) z = kept_apply w k _ z (p r).0 (p (p r).1).0 (λ e. let q = and_parts _ _ e in (f a r q.0, f b (p r).1 q.1))
 
   -- the term of at most the given depth that bytes begin with
   pub below : (d w : ℕ) (bs : List ℕ) → Kept w (term_at s d bs).0

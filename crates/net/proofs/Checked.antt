@@ -147,6 +147,7 @@ module _ (s : Sig) (vars : List ℕ) (ends : ℕ) where
       }
       applied_spelt (arguments.One a) z = one_part (0x22 ∷ k ∷ []) (λ x. apply k x missing) a ys (λ x. bytes_as _ z x missing) (reads_as _ z) (λ x h. fits _ z x missing h)
       applied_spelt (arguments.Two a b) z = two_parts (0x22 ∷ k ∷ []) (apply k) a b ys (bytes_as _ z) (reads_as _ z) (λ x y h g. fits _ z x y (both_true _ _ h g))
+      applied_spelt (arguments.More a b) z = two_parts (0x22 ∷ k ∷ []) (apply k) a b ys (bytes_as _ z) (reads_as _ z) (λ x y h g. fits _ z x y (both_true _ _ h g))
 
     application_spelt : (xs : List ℕ) → Goal (0x22 ∷ xs) (application_at s want (0x22 ∷ xs) ends)
     application_spelt [] = tt

@@ -23,11 +23,12 @@ Bytes bs = All (λ b. b < 256) bs
 abbrev pub Declared : List ℕ → ℕ → Type 0
 Declared sizes k = k < length sizes
 
--- the sort of each argument is declared
+-- the sort of each argument is declared, and there are at most two
 abbrev pub ArgumentsDeclared : List ℕ → Arguments → Type 0
 ArgumentsDeclared sizes arguments.None = Unit {0}
 ArgumentsDeclared sizes (arguments.One a) = Declared sizes a
 ArgumentsDeclared sizes (arguments.Two a b) = Declared sizes a × Declared sizes b
+ArgumentsDeclared sizes (arguments.More a b) = ⊥
 
 -- an operation has within the tables a result for each combination of its arguments: an element of its result sort
 pub record WellFormedOperation (sizes tables : List ℕ) (o : Operation) : Type 0 where

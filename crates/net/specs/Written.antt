@@ -4,11 +4,12 @@ use Rattle.term.specs.declared.signature.Arguments.{Arguments}
 use Rattle.term.specs.declared.signature.Arguments.TheVariants as arguments
 use Rattle.term.specs.Meaning.{Sig, Term, variable, constant, apply, equal, negate, both, Bag, empty, single, sum, flexible, operation}
 
--- the arguments that there are, one after the other
+-- the arguments that there are, one after the other; of more than two, the first two
 abbrev pub argument_bytes : Arguments → List ℕ → List ℕ → List ℕ
 argument_bytes arguments.None a b = []
 argument_bytes (arguments.One x) a b = a
 argument_bytes (arguments.Two x y) a b = a ++ b
+argument_bytes (arguments.More x y) a b = a ++ b
 
 -- a term: its code, its numbers, and its parts
 abbrev pub term_bytes : Sig → Term → List ℕ

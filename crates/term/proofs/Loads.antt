@@ -15,6 +15,7 @@ applied_short : (p : List ℕ → Read) (k : ℕ) (a : Arguments) (xs : List ℕ
 applied_short p k arguments.None xs n h f = h
 applied_short p k (arguments.One a) xs n h f = f xs h
 applied_short p k (arguments.Two a b) xs n h f = f (p xs).1 (f xs h)
+applied_short p k (arguments.More a b) xs n h f = f (p xs).1 (f xs h)
 
 module _ (s : Sig) where
   -- what follows a term is no longer than the bytes

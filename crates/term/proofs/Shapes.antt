@@ -17,13 +17,18 @@ use Rattle.term.proofs.Turns.{front_apply, front_both, front_constant, front_equ
 pub both_true : (a b : Bool) → a ≡ true → b ≡ true → (a && b) ≡ true
 both_true a b p q = rw (p, q)
 
+-- with two parts at r, of the sorts a and b, the term that is read by p is of sort want
+abbrev pub BegunTwo : Sig → List ℕ → ℕ → (List ℕ → Read) → Read → ℕ → ℕ → List ℕ → Type 0
+BegunTwo s vars want p read a b r =
+    (f : Term → Term → Term) × (read ≡ two p f r) × ((x y : Term) → sorted s vars a x ≡ true → sorted s vars b y ≡ true → sorted s vars want (f x y) ≡ true)
+
 -- with the parts at r, each of its sort, the term that is read by p is of sort want
 abbrev pub Begun : Sig → List ℕ → ℕ → (List ℕ → Read) → Read → Arguments → List ℕ → Type 0
 Begun s vars want p read arguments.None r = (t : Term) × (read ≡ (t, r)) × (sorted s vars want t ≡ true)
 Begun s vars want p read (arguments.One a) r =
     (f : Term → Term) × (read ≡ one p f r) × ((x : Term) → sorted s vars a x ≡ true → sorted s vars want (f x) ≡ true)
-Begun s vars want p read (arguments.Two a b) r =
-    (f : Term → Term → Term) × (read ≡ two p f r) × ((x y : Term) → sorted s vars a x ≡ true → sorted s vars b y ≡ true → sorted s vars want (f x y) ≡ true)
+Begun s vars want p read (arguments.Two a b) r = BegunTwo s vars want p read a b r
+Begun s vars want p read (arguments.More a b) r = BegunTwo s vars want p read a b r
 
 -- parts of the given sorts follow at r; with them the term is of sort want
 pub record Shape (s : Sig) (vars : List ℕ) (want : ℕ) (bs : List ℕ) (parts : Arguments) (r : List ℕ) : Type 0 where
@@ -78,6 +83,7 @@ module _ (s : Sig) (vars : List ℕ) (want : ℕ) (bs : List ℕ) where
     takes p arguments.None z = (apply (get_or bs 1 0) missing missing, opens p _ z, fits _ z missing missing refl)
     takes p (arguments.One a) z = ((λ x. apply (get_or bs 1 0) x missing), opens p _ z, λ x t. fits _ z x missing t)
     takes p (arguments.Two a b) z = (apply (get_or bs 1 0), opens p _ z, λ x y t u. fits _ z x y (both_true _ _ t u))
+    takes p (arguments.More a b) z = (apply (get_or bs 1 0), opens p _ z, λ x y t u. fits _ z x y (both_true _ _ t u))
 
   application_found : (ends : ℕ) → get_or bs 0 0 ≡ 0x22 → Found (application_at s want bs ends)
   application_found ends e =

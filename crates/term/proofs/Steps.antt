@@ -1,5 +1,5 @@
 -- One turn of the check of a term.
-use Rattle.std.proofs.Common.{◌≡◌, ℕ, zero, suc, ◌-◌, ◌<◌, Bool, true, false, cond, ◌&&◌, eqb, ltb, leb, List, length, get_or, refl, ap, sym, ◌∙◌, arith, ne_eqb}
+use Rattle.std.proofs.Common.{◌≡◌, ℕ, zero, suc, ◌-◌, ◌<◌, ◌⊎◌, Bool, true, false, cond, ◌&&◌, eqb, ltb, leb, List, length, get_or, refl, ap, sym, ◌∙◌, ⊎_elim, arith, ne_eqb}
 use Rattle.term.specs.declared.check.Checker.{Checker}
 use Rattle.term.specs.declared.check.Head.{Head}
 use Rattle.term.specs.declared.fault.Fault.TheVariants as fault
@@ -15,6 +15,10 @@ never : (p q : Bool) (a : Arguments) (r : List ℕ) (x y z : FileFault) → fron
 never true true a r x y z h = cc
 never true false a r x y z h = cc
 never false q a r x y z h = cc
+
+-- two parts are asked for, of the sorts a and b
+abbrev pub Pair : Arguments → ℕ → ℕ → Type 0
+Pair parts a b = (parts ≡ arguments.Two a b) ⊎ (parts ≡ arguments.More a b)
 
 module _ (k : Checker) where
   -- the front of a term of at most the given depth
@@ -51,8 +55,8 @@ module _ (k : Checker) where
     asks a is = step d want bs a h.rest.now (ap (λ x. front x h.rest.now) (sym is) ∙ value)
 
     -- the first of two parts was checked
-    pub then_second : (a b : ℕ) (x : Checked) → h.parts ≡ arguments.Two a b → x ≡ check (d - 1) a h.rest.now → then x (check (d - 1) b) ≡ check d want bs
-    then_second a b x is first = ap (λ t. then t (check (d - 1) b)) first ∙ asks (arguments.Two a b) is
+    pub then_second : (a b : ℕ) (x : Checked) → Pair h.parts a b → x ≡ check (d - 1) a h.rest.now → then x (check (d - 1) b) ≡ check d want bs
+    then_second a b x pair first = ap (λ t. then t (check (d - 1) b)) first ∙ ⊎_elim (asks (arguments.Two a b)) (asks (arguments.More a b)) pair
 
     abbrev passed : ℕ → ℕ → List ℕ → List ℕ → Type 0
     passed e w l r = Passed (of k.signature) k.variables.now e w l r
@@ -63,11 +67,15 @@ module _ (k : Checker) where
     pub shorter : length h.rest.now < length bs
     shorter = (shape_of h.parts refl).shorter
 
+    -- more than two arguments have the shape of two
+    shape_of_pair : (a b : ℕ) → Pair h.parts a b → Shape (of k.signature) k.variables.now want bs (arguments.Two a b) h.rest.now
+    shape_of_pair a b = ⊎_elim (shape_of (arguments.Two a b)) (λ is. let x = shape_of (arguments.More a b) is in record { shorter = x.shorter; begun = x.begun })
+
     pub leaf : h.parts ≡ arguments.None → passed d want bs h.rest.now
     leaf is = passed_leaf (of k.signature) k.variables.now d want bs h.rest.now deep (shape_of _ is)
 
     pub unary : (a : ℕ) → h.parts ≡ arguments.One a → (q : List ℕ) → passed (d - 1) a h.rest.now q → passed d want bs q
     unary a is q p = passed_one (of k.signature) k.variables.now d want bs h.rest.now deep a q (shape_of _ is) p
 
-    pub binary : (a b : ℕ) → h.parts ≡ arguments.Two a b → (q t : List ℕ) → passed (d - 1) a h.rest.now q → passed (d - 1) b q t → passed d want bs t
-    binary a b is q t p u = passed_two (of k.signature) k.variables.now d want bs h.rest.now deep a b q t (shape_of _ is) p u
+    pub binary : (a b : ℕ) → Pair h.parts a b → (q t : List ℕ) → passed (d - 1) a h.rest.now q → passed (d - 1) b q t → passed d want bs t
+    binary a b pair q t p u = passed_two (of k.signature) k.variables.now d want bs h.rest.now deep a b q t (shape_of_pair a b pair) p u

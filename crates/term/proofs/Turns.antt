@@ -1,7 +1,9 @@
 -- One turn of reading a term or a bag, by its code.
-use Rattle.std.proofs.Common.{◌≡◌, ℕ, zero, suc, ◌-◌, ◌<◌, true, false, List, length, get_or, drop, refl, ap, ◌∙◌, arith}
+use Rattle.std.proofs.Common.{◌≡◌, ℕ, zero, suc, ◌-◌, ◌<◌, ◌⊎◌, true, false, List, length, get_or, drop, refl, ap, ◌∙◌, ⊎_elim, arith}
 use Rattle.std.proofs.lemmas.Bool.Decides.{nat_tests}
-use Rattle.term.specs.Meaning.{Sig, Term, variable, constant, equal, negate, both, empty, single, sum, flexible, operation}
+use Rattle.term.specs.declared.signature.Arguments.{Arguments}
+use Rattle.term.specs.declared.signature.Arguments.TheVariants as arguments
+use Rattle.term.specs.Meaning.{Sig, Term, variable, constant, apply, equal, negate, both, empty, single, sum, flexible, operation}
 use Rattle.term.specs.Prefix.{begins, missing, Read, one, two, applied, front, term_at, bag_front, bag_at}
 
 pub is : (k n : ℕ) (bs : List ℕ) → n < length bs → get_or bs 0 0 ≡ k → begins k n bs ≡ true
@@ -65,6 +67,14 @@ module _ (s : Sig) where
     pub at_nothing : begins 0x20 1 bs ≡ false → begins 0x21 2 bs ≡ false → begins 0x22 1 bs ≡ false → begins 0x23 1 bs ≡ false → begins 0x24 0 bs ≡ false → begins 0x25 0 bs ≡ false
         → term_at s d bs ≡ (missing, bs)
     at_nothing a b c e f g = turn d bs deep ∙ rw (a, b, c, e, f, g)
+
+-- of two arguments and of more two parts are read
+pub applied_two : (p : List ℕ → Read) (k : ℕ) (v w : Arguments) (bs : List ℕ) → w ≡ v
+    → ((a : ℕ) × (b : ℕ) × (v ≡ arguments.Two a b)) ⊎ ((a : ℕ) × (b : ℕ) × (v ≡ arguments.More a b)) → applied p k w bs ≡ two p (apply k) bs
+applied_two p k v w bs same h = ap by same ∙ ⊎_elim (λ t. ap by t.2) (λ t. ap by t.2) h
+  where
+    by : Arguments → Read
+    by a = applied p k a bs
 
 -- what the values and rests of one part, or of two, are in terms of where the parts begin
 module _ (p : List ℕ → Read) (g : Term → ℕ) (bs r : List ℕ) (same : r ≡ bs) where

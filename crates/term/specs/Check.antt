@@ -87,6 +87,7 @@ parts t (none e) = bad e
 parts t (front arguments.None r) = done r
 parts t (front (arguments.One a) r) = t a r
 parts t (front (arguments.Two a b) r) = then (t a r) (t b)
+parts t (front (arguments.More a b) r) = then (t a r) (t b)
 
 -- a term of sort want, of at most the given depth; at depth 0 the front is a fault, so that no part is asked for
 abbrev pub check_term : Sig → List ℕ → ℕ → ℕ → ℕ → List ℕ → Checked

@@ -60,6 +60,7 @@ abbrev pub width : Sig → Arguments → ℕ
 width s arguments.None = 1
 width s (arguments.One a) = 1
 width s (arguments.Two a b) = size s b
+width s (arguments.More a b) = 1
 
 -- an operation's result, the first argument slowest
 abbrev pub result : Sig → Operation → ℕ → ℕ → ℕ
@@ -104,6 +105,7 @@ abbrev pub each : (ℕ → Bool) → (ℕ → Bool) → Arguments → Bool
 each f g arguments.None = true
 each f g (arguments.One a) = f a
 each f g (arguments.Two a b) = f a && g b
+each f g (arguments.More a b) = f a && g b
 
 -- a term is of a sort, over variables of the given sorts
 abbrev pub sorted : Sig → List ℕ → ℕ → Term → Bool

@@ -24,11 +24,12 @@ one p f bs = (f (p bs).0, (p bs).1)
 abbrev pub two : (List ℕ → Read) → (Term → Term → Term) → List ℕ → Read
 two p f bs = (f (p bs).0 (p (p bs).1).0, (p (p bs).1).1)
 
--- an operation with as many parts as it has arguments
+-- an operation with as many parts as it has arguments, of more than two with two
 abbrev pub applied : (List ℕ → Read) → ℕ → Arguments → List ℕ → Read
 applied p k arguments.None bs = (apply k missing missing, bs)
 applied p k (arguments.One a) bs = one p (λ x. apply k x missing) bs
 applied p k (arguments.Two a b) bs = two p (apply k) bs
+applied p k (arguments.More a b) bs = two p (apply k) bs
 
 -- a term whose parts are read by p
 abbrev pub front : Sig → (List ℕ → Read) → List ℕ → Read

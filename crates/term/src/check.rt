@@ -158,7 +158,7 @@ impl<'s> Checker<'s> {
         match head.parts {
             Arguments::None => Ok(head.rest),
             Arguments::One(a) => self.term(head.rest, depth - 1, a),
-            Arguments::Two(a, b) => {
+            Arguments::Two(a, b) | Arguments::More(a, b) => {
                 let rest = self.term(head.rest, depth - 1, a)?;
                 self.term(rest, depth - 1, b)
             }

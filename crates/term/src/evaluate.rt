@@ -63,7 +63,7 @@ impl<'s> Evaluator<'s> {
                         let a = self.next(bytes, depth - 1);
                         self.signature.result(o, a, 0)
                     }
-                    Arguments::Two(_, _) => {
+                    Arguments::Two(_, _) | Arguments::More(_, _) => {
                         let a = self.next(bytes, depth - 1);
                         let b = self.next(bytes, depth - 1);
                         self.signature.result(o, a, b)

@@ -7,6 +7,8 @@ pub enum Arguments {
     None,
     One(u8),
     Two(u8, u8),
+    // Of more than two, the first two are read alone, and a result stands at the sum of both. No file tells one.
+    More(u8, u8),
 }
 
 // An operation: the sorts of its arguments and of its result, and where its results begin in the tables, the first argument
@@ -74,7 +76,7 @@ impl<'s> Signature<'s> {
     {
         let width = match o.arguments {
             Arguments::Two(_, second) => at(self.sizes, second as usize),
-            Arguments::None | Arguments::One(_) => 1,
+            Arguments::None | Arguments::One(_) | Arguments::More(_, _) => 1,
         };
         let from = o.table as usize;
         at(

@@ -4,7 +4,7 @@ use Rattle.std.proofs.lemmas.Bool.Decides.{nat_tests}
 use Rattle.term.specs.Meaning.{of, value as value_of, result as result_of, truth, operation as op_of}
 use Rattle.term.specs.Prefix.{term_at}
 use Rattle.term.proofs.Cuts.{tail}
-use Rattle.term.proofs.Turns.{none, at_nothing, at_variable, at_constant, at_apply, at_equal, at_negate, at_both, first_part, both_parts}
+use Rattle.term.proofs.Turns.{none, at_nothing, at_variable, at_constant, at_apply, at_equal, at_negate, at_both, applied_two, first_part, both_parts}
 use Rattle.term.proofs.evaluate.Evaluator.+terms.Goals as goal
 
 pub next-returns-then-depth-eq0 : goal.next-returns-then-depth-eq0
@@ -72,7 +72,7 @@ next_other-returns-in-Two t c =
     let q = both_parts (term_at s (c.args.depth - 1)) (value_of s c.args.self.now.mode.now) (drop 2 c.args.bytes.now.now) _ (tail 2 c.args.bytes.now.now)
     c.next-a-in-Two.result c.next-b-in-Two.result c.next-a-in-Two.new.bytes.now c.next-b-in-Two.new.bytes.now
     c.next-a-in-Two.ensures.value c.next-a-in-Two.ensures.rest c.next-b-in-Two.ensures.value c.next-b-in-Two.ensures.rest in
-    rw (at_apply s c.args.depth c.args.bytes.now.now (omega arith) (search rules) (search rules), sym (ap (λ o. o.arguments) is) ∙ c.in-Two.is)
+    rw (at_apply s c.args.depth c.args.bytes.now.now (omega arith) (search rules) (search rules), applied_two (term_at s (c.args.depth - 1)) k _ _ (drop 2 c.args.bytes.now.now) (sym (ap (λ o. o.arguments) is)) c.in-Two.is)
     (record { value = c.result-in-Two.ensures ∙ ap (λ o. result_of s o c.next-a-in-Two.result c.next-b-in-Two.result) is ∙ same_two (result_of s (op_of s k)) _ _ _ _ q.0 q.1; rest = q.2 })
 
 -- no term begins here: too few bytes, or no code
