@@ -80,7 +80,7 @@ abbrev pub with_table : Parts → (List ℕ → Said) → Read
 with_table (both t r) k = said (k t) r
 with_table (neither e) k = fault e
 
--- how many combinations of arguments there are
+-- how many combinations of arguments there are; of more than two, the first two count
 abbrev pub combinations : List ℕ → Arguments → ℕ
 combinations sizes arguments.None = 1
 combinations sizes (arguments.One a) = size_of sizes a

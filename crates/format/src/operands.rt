@@ -79,7 +79,7 @@ fn arguments(arity: u8, first: u8, second: u8) -> Arguments
     }
 }
 
-// How many combinations of arguments an operation has.
+// How many combinations of arguments an operation has; of more than two, the first two count.
 fn rows(sizes: &[u8], arguments: Arguments) -> usize
     ensures { result ≡ combinations sizes.now arguments }
 {
