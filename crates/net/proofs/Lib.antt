@@ -8,6 +8,8 @@ pub mod Checked
 pub mod Coded
 pub mod Codings
 pub mod Every
+pub mod Extents
+pub mod Linked
 pub mod Loaded
 pub mod Moves
 pub mod Newest

@@ -14,15 +14,23 @@ part_load n a = most_tokens (bag_of n a)
 abbrev pub load : SystemNet → List Arc → ℕ
 load n xs = sum_by (part_load n) xs
 
-module _ (xs : List parts.Arc) (i : ℕ) (a : parts.Arc) (h : i < length xs) (is : a ≡ get_or xs i a) where
-  -- the sum over what the arcs tell
-  sum_more : (f : Arc → ℕ) → sum_by f (map arc_told (take i xs)) + f (arc_told a) ≡ sum_by f (map arc_told (take (i + 1) xs))
-  sum_more f =
-      let before = map arc_told (take i xs) in
-      sym (ap (sum_by f) (map_more arc_told xs i a h) ∙ sum_by_push f before (arc_told (get_or xs i a)) ∙ ap (λ z. sum_by f before + f (arc_told z)) (sym is))
+-- stands where an arc is missing
+abbrev pub no_arc : parts.Arc
+no_arc = record { place = 0; bag = record { from = 0; len = 0 } }
 
-  pub side_more : (n : SystemNet) (m : List ℕ) (c : ℕ) → side n m (map arc_told (take i xs)) c + part n m c (arc_told a) ≡ side n m (map arc_told (take (i + 1) xs)) c
+module _ (bytes : List ℕ) (xs : List parts.Arc) (i : ℕ) (h : i < length xs) where
+  abbrev told : parts.Arc → Arc
+  told = arc_told bytes
+
+  abbrev here : Arc
+  here = told (get_or xs i no_arc)
+
+  -- the sum over what the arcs tell
+  sum_more : (f : Arc → ℕ) → sum_by f (map told (take i xs)) + f here ≡ sum_by f (map told (take (i + 1) xs))
+  sum_more f = sym (ap (sum_by f) (map_more told xs i no_arc h) ∙ sum_by_push f (map told (take i xs)) here)
+
+  pub side_more : (n : SystemNet) (m : List ℕ) (c : ℕ) → side n m (map told (take i xs)) c + part n m c here ≡ side n m (map told (take (i + 1) xs)) c
   side_more n m c = sum_more (part n m c)
 
-  pub load_more : (n : SystemNet) → load n (map arc_told (take i xs)) + part_load n (arc_told a) ≡ load n (map arc_told (take (i + 1) xs))
+  pub load_more : (n : SystemNet) → load n (map told (take i xs)) + part_load n here ≡ load n (map told (take (i + 1) xs))
   load_more n = sum_more (part_load n)

@@ -1,3 +1,4 @@
+pub mod Extents
 pub mod System
 pub mod Nets
 pub mod Runs

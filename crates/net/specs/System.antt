@@ -7,6 +7,8 @@ use Rattle.net.specs.declared.parts.Arc as arcs
 use Rattle.net.specs.declared.parts.Claim.{Claim}
 use Rattle.net.specs.declared.parts.Parts.{Parts}
 use Rattle.net.specs.declared.parts.Transition as parts
+use Rattle.net.specs.declared.parts.transitions.Transitions.{Transitions}
+use Rattle.net.specs.Extents.{part_of}
 
 -- the number of cells: 16 places of at most 64 elements
 abbrev pub cells : ℕ
@@ -78,19 +80,29 @@ arcs_in t = length t.takes + length t.puts
 abbrev pub arc_count : SystemNet → ℕ
 arc_count n = sum_by arcs_in n.transitions
 
--- the arc that one in memory holds
-abbrev pub arc_told : arcs.Arc → Arc
-arc_told a = record { place = a.place; bag = vec_items a.bag }
+-- the arc that one in memory holds, whose bag is a part of these bytes
+abbrev pub arc_told : List ℕ → arcs.Arc → Arc
+arc_told bytes a = record { place = a.place; bag = part_of a.bag bytes }
 
--- the transition that one in memory holds
-abbrev pub transition_told : parts.Transition → Transition
-transition_told t = record {
-  sorts = vec_items t.sorts;
+-- the transition that one in memory holds, which has parts of the arcs that take, of those that put, and of these bytes
+abbrev pub transition_told : List arcs.Arc → List arcs.Arc → List ℕ → parts.Transition → Transition
+transition_told takes puts bytes t = record {
+  sorts = part_of t.sorts bytes;
   sizes = t.sizes;
-  guard = option_map vec_items t.guard;
-  takes = map arc_told (vec_items t.takes);
-  puts = map arc_told (vec_items t.puts);
+  guard = option_map (λ e. part_of e bytes) t.guard;
+  takes = map (arc_told bytes) (part_of t.takes takes);
+  puts = map (arc_told bytes) (part_of t.puts puts);
 }
+
+-- an arc, a transition, and all transitions, as those in memory tell them
+abbrev pub arc_in : Transitions → arcs.Arc → Arc
+arc_in s = arc_told (vec_items s.bytes)
+
+abbrev pub transition_in : Transitions → parts.Transition → Transition
+transition_in s = transition_told (vec_items s.takes) (vec_items s.puts) (vec_items s.bytes)
+
+abbrev pub transitions_told : Transitions → List Transition
+transitions_told s = map (transition_in s) (vec_items s.list)
 
 -- the net that parts in memory tell
 abbrev pub told_by : Parts → SystemNet
@@ -98,6 +110,6 @@ told_by p = record {
   sig = record { sizes = vec_items p.sizes; operations = vec_items p.operations; bags = vec_items p.bags; tables = vec_items p.tables };
   places = vec_items p.places;
   initial = p.initial;
-  transitions = map transition_told (vec_items p.transitions);
+  transitions = transitions_told p.transitions;
   claims = vec_items p.claims;
 }

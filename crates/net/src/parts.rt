@@ -6,23 +6,28 @@ use term::{BagOperation, Operation};
 
 mod ask;
 mod build;
+mod extent;
+mod transitions;
 
-// An arc: its place and its bag.
-#[derive(Clone, Drop)]
+use extent::Extent;
+use transitions::Transitions;
+
+// An arc: its place, and which of the bytes of all transitions are its bag.
+#[derive(Clone, Copy)]
 pub struct Arc {
     pub(crate) place: u8,
-    pub(crate) bag: Vec<u8>,
+    pub(crate) bag: Extent,
 }
 
-// A transition: the sorts of its variables, how many elements each of four has (1 for an unused one), the term
-// of its guard, and the arcs by which it takes tokens and puts them.
-#[derive(Clone, Drop)]
+// A transition: which of the bytes of all transitions are the sorts of its variables and its guard, how many elements each
+// of four variables has (1 for an unused one), and which of all arcs take its tokens and put them.
+#[derive(Clone, Copy)]
 pub struct Transition {
-    pub(crate) sorts: Vec<u8>,
+    pub(crate) sorts: Extent,
     pub(crate) sizes: [u8; 4],
-    pub(crate) guard: Option<Vec<u8>>,
-    pub(crate) takes: Vec<Arc>,
-    pub(crate) puts: Vec<Arc>,
+    pub(crate) guard: Option<Extent>,
+    pub(crate) takes: Extent,
+    pub(crate) puts: Extent,
 }
 
 // A claim: its kind, and a code for each cell.
@@ -42,7 +47,7 @@ pub struct Parts {
     pub(crate) tables: Vec<u8>,
     pub(crate) places: Vec<u8>,
     pub(crate) initial: [u16; CELLS],
-    pub(crate) transitions: Vec<Transition>,
+    pub(crate) transitions: Transitions,
     pub(crate) claims: Vec<Claim>,
     ghost first: { slice_index sizes.items 0 ≡ 2 },
 }

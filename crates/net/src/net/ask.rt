@@ -5,7 +5,7 @@ ghost use Rattle.term.specs.Worth.{value_of};
 ghost use Rattle.domain.specs.Meaning.{Tells};
 ghost use Rattle.net.specs.Nets.{ExactlyTallied, HasCell, IsKind, Mode, Tallied, arcs_of, codes_of, digit, given, guard_holds, largest_side, mode, mode_of, modes_of, side, taken, transition};
 ghost use Rattle.net.specs.Of.{system};
-ghost use Rattle.net.specs.System.{arc_told};
+ghost use Rattle.net.specs.System.{arc_in};
 
 use super::{CELLS, Net};
 use crate::firing::Firing;
@@ -107,7 +107,7 @@ impl Net {
     pub fn modes(&self, t: usize) -> u32
         ensures { result ≡ modes_of (system self.now) t }
     {
-        self.parts.transition(t).map_or(0, |t| modes(t.sizes))
+        self.parts.transitions.get(t).map_or(0, |t| modes(t.sizes))
     }
 
     // The mode number `i` of a transition, the last variable fastest.
@@ -115,7 +115,7 @@ impl Net {
         ensures { result ≡ mode (system self.now) t i }
     {
         // no `map_or`: its proof stays open
-        let Some(t) = self.parts.transition(t) else {
+        let Some(t) = self.parts.transitions.get(t) else {
             return [0; 4];
         };
         mode_at(t.sizes, i)
@@ -126,7 +126,8 @@ impl Net {
         ensures { Tells result (Mode (transition (system self.now) f.transition).sizes f.mode) }
     {
         self.parts
-            .transition(f.transition)
+            .transitions
+            .get(f.transition)
             .is_some_and(|t| below(f.mode, t.sizes))
     }
 
@@ -134,7 +135,7 @@ impl Net {
     pub fn guard(&self, f: Firing) -> bool
         ensures { result ≡ guard_holds (system self.now) f.transition f.mode }
     {
-        let Some(term) = self.parts.guard(f.transition) else {
+        let Some(term) = self.parts.transitions.guard(f.transition) else {
             return true;
         };
         let evaluator = self.evaluator(&f.mode);
@@ -144,9 +145,9 @@ impl Net {
 
     // The arcs of a transition that go one way.
     fn arcs_of(&self, t: usize, direction: Direction) -> &[Arc]
-        ensures { map arc_told result.now ≡ arcs_of (system self.now) t direction }
+        ensures { map (arc_in self.now.parts.transitions) result.now ≡ arcs_of (system self.now) t direction }
     {
-        self.parts.transition(t).map_or(&[], |t| t.arcs(direction))
+        self.parts.transitions.arcs(t, direction)
     }
 
     // Adds what a transition takes or puts in a mode to the counts. This loop and that of `weigh` stay two: one would
@@ -158,7 +159,8 @@ impl Net {
     {
         let evaluator = self.evaluator(&f.mode);
         for arc in self.arcs_of(f.transition, direction) {
-            evaluator.count_bag(arc.bag.as_slice(), DEPTH, arc.place, counts);
+            let bag = self.parts.transitions.bag(arc);
+            evaluator.count_bag(bag, DEPTH, arc.place, counts);
         }
     }
 
@@ -174,7 +176,8 @@ impl Net {
         let evaluator = self.evaluator(&f.mode);
         let mut sum = weights.domain.zero();
         for arc in self.arcs_of(f.transition, direction) {
-            (sum, _) = evaluator.weigh_bag(arc.bag.as_slice(), DEPTH, weights, arc.place, sum);
+            let bag = self.parts.transitions.bag(arc);
+            (sum, _) = evaluator.weigh_bag(bag, DEPTH, weights, arc.place, sum);
         }
         sum
     }

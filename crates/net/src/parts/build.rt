@@ -1,16 +1,16 @@
 // The parts of a net as it is read, command by command.
-ghost use Rattle.std.specs.Prelude.{◌≡◌, ◌-◌, ◌^◌, length, min, IfOk, OnOk, slice_set, vec_items};
+ghost use Rattle.std.specs.Prelude.{◌≡◌, ◌-◌, length, IfOk, OnOk, slice_set};
 ghost use Rattle.term.specs.Meaning.{of};
-ghost use Rattle.format.specs.Commands.{arc, bag_operation, claim, element_weight, guard, operation, place_weight, said_of, tokens, transition};
+ghost use Rattle.format.specs.Commands.{bag_operation, claim, element_weight, operation, place_weight, said_of, tokens, transition};
 ghost use Rattle.format.specs.Format.{setting_of};
 ghost use Rattle.net.specs.Nets.{no_claim};
-ghost use Rattle.net.specs.Reading.{add, coded, empty, full, guarded, linked, newest, setting, table_added, unweighted};
-ghost use Rattle.net.specs.System.{arc_count, arc_told, arcs_in, no_transition, told_by, transition_told};
+ghost use Rattle.net.specs.Reading.{add, coded, empty, full, newest, setting, table_added, unweighted};
+ghost use Rattle.net.specs.System.{arc_count, told_by};
 
-use super::{Arc, Claim, Parts, Transition};
+use super::{Claim, Parts, Transitions};
 use crate::net::CELLS;
 use domain::Kind;
-use format::{Code, Command, Context, Direction, variable_sizes};
+use format::{Code, Command, Context, variable_sizes};
 use std::alloc::{AllocError, Global};
 use term::{Arguments, BagOperation, Checker, Operation, Signature, cell};
 
@@ -28,32 +28,6 @@ const TRANSITIONS: usize = 32;
 const ARCS: usize = 128;
 
 const CLAIMS: usize = 16;
-
-impl Transition {
-    // How many arcs there are, both directions together.
-    fn arc_count(&self) -> usize
-        ensures { result ≡ arcs_in (transition_told self.now) }
-    {
-        self.takes.len() + self.puts.len()
-    }
-
-    fn set_guard(&mut self, term: Vec<u8>)
-        ensures { transition_told self.new ≡ guarded (vec_items term) (transition_told self.old) }
-    {
-        self.guard = Some(term);
-    }
-
-    // Adds an arc that goes one way.
-    fn add(&mut self, direction: Direction, arc: Arc) -> Result<(), AllocError>
-        ensures { OnOk result (transition_told self.new ≡ linked direction (arc_told arc) (transition_told self.old)) }
-    {
-        match direction {
-            Direction::In => self.takes.push(arc)?,
-            Direction::Out => self.puts.push(arc)?,
-        }
-        Ok(())
-    }
-}
 
 impl Claim {
     // One without weights.
@@ -88,7 +62,7 @@ impl Parts {
             tables: Vec::new(heap),
             places: Vec::new(heap),
             initial: [0; CELLS],
-            transitions: Vec::new(heap),
+            transitions: Transitions::new(heap),
             claims: Vec::new(heap),
         })
     }
@@ -117,20 +91,11 @@ impl Parts {
             Code::BagOperation => self.bags.len() >= BAG_OPERATIONS,
             Code::Place => self.places.len() >= PLACES,
             Code::Transition => self.transitions.len() >= TRANSITIONS,
-            Code::InArc | Code::OutArc => self.arc_count() >= ARCS,
+            Code::InArc | Code::OutArc => self.transitions.arc_count() >= ARCS,
             Code::Claim => self.claims.len() >= CLAIMS,
             Code::Tokens | Code::Guard | Code::PlaceWeight | Code::ElementWeight | Code::End =>
                 false,
         }
-    }
-
-    // How many arcs there are.
-    fn arc_count(&self) -> usize
-        ensures { result ≡ min (arc_count (told_by self.now)) (2 ^ 64 - 1) }
-    {
-        self.transitions
-            .iter()
-            .fold(0, |n: usize, t| n.saturating_add(t.arc_count()))
     }
 
     pub(crate) fn signature(&self) -> Signature<'_>
@@ -151,19 +116,12 @@ impl Parts {
         Context {
             checker: Checker {
                 signature: self.signature(),
-                variables: self.variables(),
+                variables: self.transitions.variables(),
                 ends,
             },
             places: self.places.as_slice(),
             kind: self.last_kind(),
         }
-    }
-
-    // The sorts of the newest transition's variables.
-    fn variables(&self) -> &[u8]
-        ensures { result.now ≡ (newest (told_by self.now).transitions no_transition).sorts }
-    {
-        self.transitions.last().map_or(&[], |t| t.sorts.as_slice())
     }
 
     // The kind of the newest claim.
@@ -215,40 +173,8 @@ impl Parts {
     fn add_transition(&mut self, sorts: &[u8]) -> Result<(), AllocError>
         ensures { OnOk result (told_by self.new ≡ add (told_by self.old) (transition sorts.now)) }
     {
-        let heap = *self.transitions.allocator();
-        self.transitions.push(Transition {
-            sorts: sorts.to_vec(heap)?,
-            sizes: variable_sizes(self.sizes.as_slice(), sorts),
-            guard: None,
-            takes: Vec::new(heap),
-            puts: Vec::new(heap),
-        })?;
-        Ok(())
-    }
-
-    // Gives the newest transition a guard.
-    fn add_guard(&mut self, term: &[u8]) -> Result<(), AllocError>
-        ensures { OnOk result (told_by self.new ≡ add (told_by self.old) (guard term.now)) }
-    {
-        let term = term.to_vec(*self.transitions.allocator())?;
-        if let Some(t) = self.transitions.last_mut() {
-            t.set_guard(term);
-        }
-        Ok(())
-    }
-
-    // Gives the newest transition an arc.
-    fn add_arc(&mut self, direction: Direction, place: u8, bag: &[u8]) -> Result<(), AllocError>
-        ensures { OnOk result (told_by self.new ≡ add (told_by self.old) (arc direction place bag.now)) }
-    {
-        let arc = Arc {
-            place,
-            bag: bag.to_vec(*self.transitions.allocator())?,
-        };
-        let Some(t) = self.transitions.last_mut() else {
-            return Ok(());
-        };
-        t.add(direction, arc)
+        let sizes = variable_sizes(self.sizes.as_slice(), sorts);
+        self.transitions.push(sorts, sizes)
     }
 
     fn add_claim(&mut self, kind: Kind) -> Result<(), AllocError>
@@ -308,12 +234,12 @@ impl Parts {
                 count,
             } => self.set_tokens(place, element, count),
             Command::Transition { sorts } => self.add_transition(sorts)?,
-            Command::Guard { term } => self.add_guard(term)?,
+            Command::Guard { term } => self.transitions.set_guard(term)?,
             Command::Arc {
                 direction,
                 place,
                 bag,
-            } => self.add_arc(direction, place, bag)?,
+            } => self.transitions.add_arc(direction, place, bag)?,
             Command::Claim { kind } => self.add_claim(kind)?,
             Command::PlaceWeight { place, code } => self.set_codes(place, code),
             Command::ElementWeight {

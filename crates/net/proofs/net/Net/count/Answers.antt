@@ -1,12 +1,12 @@
-use Rattle.std.proofs.Common.{List, map, take, ap, ◌∙◌, subst, arith, take_all}
+use Rattle.std.proofs.Common.{List, get_or, map, take, vec_items, ap, ◌∙◌, subst, arith, take_all}
 use Rattle.term.specs.Meaning.{count}
 use Rattle.net.specs.Nets.{Tallied, bag_of, side}
 use Rattle.net.specs.Of.{system}
 use Rattle.net.proofs.Every.{counted, few_tokens}
-use Rattle.net.proofs.Sides.{side_more}
+use Rattle.net.proofs.Sides.{no_arc, side_more}
 use Rattle.net.proofs.Tallied.{alike, more}
 use Rattle.net.proofs.net.Net.count.Goals as goal
-use Rattle.net.specs.System.{Arc, arc_told}
+use Rattle.net.specs.System.{Arc, arc_in}
 
 pub loop-arc-preserved : goal.loop-arc-preserved
 loop-arc-preserved c =
@@ -14,10 +14,11 @@ loop-arc-preserved c =
     let m = c.args.f.mode in
     let items = c.arcs_of-arc-items.result.now in
     let i = c.loop-arc.arc-index in
-    let a = c.arc-item.result in
-    let added = rw (c.evaluator-evaluator.ensures.signature, c.evaluator-evaluator.ensures.mode, c.as_slice.ensures.value) at c.count_bag.ensures.counts in
-    alike _ _ _ _ (side_more items i a c.loop-arc-test.true c.arc-item.is n m)
-    (more _ _ _ (side n m (map arc_told (take i items))) a.place (count n.sig m (bag_of n (arc_told a))) c.loop-arc.auto.counts c.loop-arc.invariant added)
+    let bytes = vec_items c.args.self.now.parts.transitions.bytes in
+    let a = get_or items i no_arc in
+    let added = rw (c.evaluator-evaluator.ensures.signature, c.evaluator-evaluator.ensures.mode, c.bag-bag.ensures) at c.count_bag.ensures.counts in
+    alike _ _ _ _ (side_more bytes items i c.loop-arc-test.true n m)
+    (more _ _ _ (side n m (map (arc_in c.args.self.now.parts.transitions) (take i items))) a.place (count n.sig m (bag_of n (arc_in c.args.self.now.parts.transitions a))) c.loop-arc.auto.counts c.loop-arc.invariant added)
 
 pub returns-clause-exact : goal.returns-clause-exact
 returns-clause-exact c =
@@ -26,7 +27,7 @@ returns-clause-exact c =
     let t = c.args.f.transition in
     let d = c.args.direction in
     let items = c.arcs_of-arc-items.result.now in
-    let all = ap (map arc_told) (take_all c.loop-arc.arc-index items (omega (arith, c.loop-arc-test.false))) ∙ c.arcs_of-arc-items.ensures in
+    let all = ap (map (arc_in c.args.self.now.parts.transitions)) (take_all c.loop-arc.arc-index items (omega (arith, c.loop-arc-test.false))) ∙ c.arcs_of-arc-items.ensures in
     counted c.args.self.now m t d c.args.counts.now c.loop-arc.counts (subst (λ (xs : List Arc). Tallied c.args.counts.now c.loop-arc.counts (side n m xs)) all c.loop-arc.invariant)
 
 pub returns-clause-few : goal.returns-clause-few

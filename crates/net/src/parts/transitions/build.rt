@@ -1,0 +1,136 @@
+// Transitions as they are read.
+ghost use Rattle.std.specs.Prelude.{◌≡◌, ◌+◌, ◌-◌, ◌^◌, ◌≤◌, [], ◌∷◌, ◌++◌, None, length, min, sum_by, vec_len, IfOk, OnErr, OnOk};
+ghost use Rattle.net.specs.Extents.{ends, part_of};
+ghost use Rattle.net.specs.Reading.{guarded, linked, renew};
+ghost use Rattle.net.specs.System.{arcs_in, no_transition, transitions_told};
+
+use super::Transitions;
+use crate::parts::extent::Extent;
+use crate::parts::{Arc, Transition};
+use format::Direction;
+use std::alloc::{AllocError, Global};
+
+impl Transition {
+    // How many arcs there are, both directions together.
+    fn arc_count(&self) -> usize
+        ensures { result ≡ min (self.now.takes.len + self.now.puts.len) (2 ^ 64 - 1) }
+    {
+        self.takes.len.saturating_add(self.puts.len)
+    }
+}
+
+// Puts an arc behind the others and into the part that ends with them.
+fn link(arcs: &mut Vec<Arc>, part: &mut Extent, arc: Arc) -> Result<(), AllocError>
+    requires { ends part.old ≡ vec_len arcs.old }
+    ensures ok { OnOk result ((arcs.new.items ≡ arcs.old.items ++ arc ∷ []) × (part.new ≡ record part.old { len = part.old.len + 1 })) }
+    ensures err { OnErr result ((arcs.new.items ≡ arcs.old.items) × (part.new ≡ part.old)) }
+{
+    arcs.push(arc)?;
+    part.len += 1;
+    Ok(())
+}
+
+impl Transitions {
+    pub(crate) fn new(heap: Global) -> Transitions
+        ensures { transitions_told result ≡ [] }
+    {
+        Transitions {
+            list: Vec::new(heap),
+            takes: Vec::new(heap),
+            puts: Vec::new(heap),
+            bytes: Vec::new(heap),
+        }
+    }
+
+    pub(crate) fn clear(&mut self)
+        ensures { transitions_told self.new ≡ [] }
+    {
+        self.list.clear();
+        self.takes.clear();
+        self.puts.clear();
+        self.bytes.clear();
+    }
+
+    pub(crate) fn len(&self) -> usize
+        ensures { result ≡ length (transitions_told self.now) }
+    {
+        self.list.len()
+    }
+
+    // How many arcs there are.
+    pub(crate) fn arc_count(&self) -> usize
+        ensures { result ≡ min (sum_by arcs_in (transitions_told self.now)) (2 ^ 64 - 1) }
+    {
+        self.list
+            .iter()
+            .fold(0, |n: usize, t| n.saturating_add(t.arc_count()))
+    }
+
+    // Puts bytes behind the others, and gives where they stand.
+    fn keep(&mut self, bytes: &[u8]) -> Result<Extent, AllocError>
+        ensures told { transitions_told self.new ≡ transitions_told self.old }
+        ensures bytes { IfOk result (λ e. part_of e self.new.bytes.items ≡ bytes.now) }
+        ensures within { IfOk result (λ e. ends e ≤ length self.new.bytes.items) }
+    {
+        let from = self.bytes.len();
+        self.bytes.extend_from_slice(bytes)?;
+        Ok(Extent {
+            from,
+            len: bytes.len(),
+        })
+    }
+
+    // Adds a transition with variables of these sorts, which have so many elements.
+    pub(crate) fn push(&mut self, sorts: &[u8], sizes: [u8; 4]) -> Result<(), AllocError>
+        ensures { OnOk result (transitions_told self.new ≡ transitions_told self.old ++ (record { sorts = sorts.now; sizes = sizes; guard = None; takes = []; puts = [] }) ∷ []) }
+    {
+        let sorts = self.keep(sorts)?;
+        let takes = Extent {
+            from: self.takes.len(),
+            len: 0,
+        };
+        let puts = Extent {
+            from: self.puts.len(),
+            len: 0,
+        };
+        self.list.push(Transition {
+            sorts,
+            sizes,
+            guard: None,
+            takes,
+            puts,
+        })?;
+        Ok(())
+    }
+
+    // Gives the newest transition a guard.
+    pub(crate) fn set_guard(&mut self, term: &[u8]) -> Result<(), AllocError>
+        ensures { OnOk result (transitions_told self.new ≡ renew (transitions_told self.old) no_transition (guarded term.now)) }
+    {
+        let term = self.keep(term)?;
+        if let Some(t) = self.list.last_mut() {
+            t.guard = Some(term);
+        }
+        Ok(())
+    }
+
+    // Gives the newest transition an arc.
+    pub(crate) fn add_arc(
+        &mut self,
+        direction: Direction,
+        place: u8,
+        bag: &[u8],
+    ) -> Result<(), AllocError>
+        ensures { OnOk result (transitions_told self.new ≡ renew (transitions_told self.old) no_transition (linked direction (record { place = place; bag = bag.now }))) }
+    {
+        let bag = self.keep(bag)?;
+        let arc = Arc { place, bag };
+        let Some(t) = self.list.last_mut() else {
+            return Ok(());
+        };
+        match direction {
+            Direction::In => link(&mut self.takes, &mut t.takes, arc),
+            Direction::Out => link(&mut self.puts, &mut t.puts, arc),
+        }
+    }
+}
