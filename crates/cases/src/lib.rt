@@ -1,6 +1,8 @@
 // Files of nets, as hexadecimal digits, and which of them read.
 #![tactic(auto)]
 
+#[cfg(test)]
+mod copies;
 pub mod nets;
 #[cfg(test)]
 mod operations;
