@@ -1,4 +1,4 @@
-// Files of nets, as hexadecimal digits, and which of them read.
+// Files of nets, as hexadecimal digits, and which of them read; what operations give, and which types can be copied.
 #![tactic(auto)]
 
 #[cfg(test)]

@@ -31,7 +31,7 @@ pub data Read : Type 0 where
 
 -- so many arguments, of the sorts a and b
 abbrev pub arguments_of : ℕ → ℕ → ℕ → Arguments
-arguments_of n a b = cond (n == 0) arguments.None (cond (n == 1) (arguments.One a) (arguments.Two a b))
+arguments_of n a b = cond (n == 0) arguments.None (cond (n == 1) (arguments.One a) (cond (n == 2) (arguments.Two a b) (arguments.More a b)))
 
 -- what a command says
 abbrev pub said_of : Command → Said

@@ -75,7 +75,8 @@ fn arguments(arity: u8, first: u8, second: u8) -> Arguments
     match arity {
         0 => Arguments::None,
         1 => Arguments::One(first),
-        _ => Arguments::Two(first, second),
+        2 => Arguments::Two(first, second),
+        _ => Arguments::More(first, second),
     }
 }
 

@@ -17,8 +17,19 @@ Among s (arguments.One a) x y = (x < size s a) × (y ≡ 0)
 Among s (arguments.Two a b) x y = (x < size s a) × (y < size s b)
 Among s (arguments.More a b) x y = (x < size s a) × (y < size s b)
 
--- they name a result, for there are at most two
-inside : (s : Sig) (a : Arguments) (x y : ℕ) → ArgumentsDeclared s.sizes a → Among s a x y → x * width s a + y < combinations s.sizes a
+-- there are at most two
+abbrev Few : Arguments → Type 0
+Few (arguments.More a b) = ⊥
+Few a = Unit {0}
+
+few : (sizes : List ℕ) (a : Arguments) → ArgumentsDeclared sizes a → Few a
+few sizes arguments.None d = tt
+few sizes (arguments.One a) d = tt
+few sizes (arguments.Two a b) d = tt
+few sizes (arguments.More a b) d = d
+
+-- they name a result
+inside : (s : Sig) (a : Arguments) (x y : ℕ) → Few a → Among s a x y → x * width s a + y < combinations s.sizes a
 inside s arguments.None x y d h = let p = h.0 in let q = h.1 in omega arith
 inside s (arguments.One a) x y d h = let p = h.0 in let q = h.1 in omega arith
 inside s (arguments.Two a b) x y d h = omega (arith, mul-add-lt x (size s b) y (size s a) h.0 h.1)
@@ -35,7 +46,7 @@ module _ (s : Sig) (well_formed : All (WellFormedOperation s.sizes s.tables) s.o
       let at = x * width s (operation s k).arguments + y in
       let e = ap (λ l. x * width s l + y) z in
       let f = ap (combinations s.sizes) z in
-      let i = inside s a x y (subst (ArgumentsDeclared s.sizes) z o.arguments) h in
+      let i = inside s a x y (few s.sizes a (subst (ArgumentsDeclared s.sizes) z o.arguments)) h in
       o.results at (omega (arith, e, f, i))
 
   -- if it is of the sort, its value is one of the sort's elements

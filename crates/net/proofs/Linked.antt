@@ -4,24 +4,24 @@ use Rattle.format.specs.declared.command.Direction.TheVariants.{In, Out}
 use Rattle.net.specs.declared.parts.Arc.{Arc}
 use Rattle.net.specs.declared.parts.Transition.{Transition}
 use Rattle.net.specs.declared.parts.extent.Extent.{Extent}
-use Rattle.net.specs.Extents.{Kept, Within, ends}
+use Rattle.net.specs.Extents.{PartsInPlace, PartsWithin, end_of}
 use Rattle.net.specs.Reading.{linked, renew}
 use Rattle.net.specs.System.{arc_told, no_transition, transition_told}
 use Rattle.net.proofs.Extents.{linked_put, linked_take, told_put, told_take}
 use Rattle.net.proofs.Renewed.{told_anew}
 
-module _ (ts : List Transition) (takes puts : List Arc) (bytes : List ℕ) (h : Kept ts takes puts bytes) (n : ℕ) (len : n ≡ length ts) (some : 0 < n) (t : Transition) (is : t ≡ get_or ts (n - 1) t) where
-  fits : Within takes puts bytes t
-  fits = subst (Within takes puts bytes) (sym is) (h.each (n - 1) t (omega arith))
+module _ (ts : List Transition) (takes puts : List Arc) (bytes : List ℕ) (h : PartsInPlace ts takes puts bytes) (n : ℕ) (len : n ≡ length ts) (some : 0 < n) (t : Transition) (is : t ≡ get_or ts (n - 1) t) where
+  fits : PartsWithin takes puts bytes t
+  fits = subst (PartsWithin takes puts bytes) (sym is) (h.each (n - 1) t (omega arith))
 
   newest : t ≡ get_or ts (length ts - 1) t
   newest = is ∙ ap (λ k. get_or ts (k - 1) t) len
 
-  last_takes : ends t.takes ≡ length takes
-  last_takes = ap (λ (x : Transition). ends x.takes) newest ∙ h.last_takes t (omega arith)
+  last_takes : end_of t.takes ≡ length takes
+  last_takes = ap (λ (x : Transition). end_of x.takes) newest ∙ h.last_taken t (omega arith)
 
-  last_puts : ends t.puts ≡ length puts
-  last_puts = ap (λ (x : Transition). ends x.puts) newest ∙ h.last_puts t (omega arith)
+  last_puts : end_of t.puts ≡ length puts
+  last_puts = ap (λ (x : Transition). end_of x.puts) newest ∙ h.last_put t (omega arith)
 
   pub added_take : (a : Arc) (xs : List Arc) (e : Extent) → xs ≡ takes ++ a ∷ [] → e ≡ record t.takes { len = t.takes.len + 1 }
       → map (transition_told xs puts bytes) (set ts (n - 1) (record t { takes = e })) ≡ renew (map (transition_told takes puts bytes) ts) no_transition (linked In (arc_told bytes a))

@@ -11,24 +11,24 @@ abbrev pub part_of : {X : Type 0} → Extent → List X → List X
 part_of e xs = take e.len (drop e.from xs)
 
 -- how many stand up to the end of a part
-abbrev pub ends : Extent → ℕ
-ends e = e.from + e.len
+abbrev pub end_of : Extent → ℕ
+end_of e = e.from + e.len
 
 -- the parts that a transition has are within the lists
-pub record Within (xs ys : List Arc) (bytes : List ℕ) (t : Transition) : Type 0 where
-  pub sorts : ends t.sorts ≤ length bytes
-  pub guard : ForSome t.guard (λ e. ends e ≤ length bytes)
-  pub takes : ends t.takes ≤ length xs
-  pub puts : ends t.puts ≤ length ys
+pub record PartsWithin (takes puts : List Arc) (bytes : List ℕ) (t : Transition) : Type 0 where
+  pub variables : end_of t.sorts ≤ length bytes
+  pub guarded : ForSome t.guard (λ e. end_of e ≤ length bytes)
+  pub taken : end_of t.takes ≤ length takes
+  pub put : end_of t.puts ≤ length puts
 
 -- the bag of each arc is within the bytes
-abbrev pub Bags : List ℕ → List Arc → Type 0
-Bags bytes xs = All (λ a. ends a.bag ≤ length bytes) xs
+abbrev pub BagsWithin : List ℕ → List Arc → Type 0
+BagsWithin bytes xs = All (λ a. end_of a.bag ≤ length bytes) xs
 
 -- all parts are within their lists, and those of the newest transition stand last among the arcs
-pub record Kept (ts : List Transition) (takes puts : List Arc) (bytes : List ℕ) : Type 0 where
-  pub each : All (Within takes puts bytes) ts
-  pub taken : Bags bytes takes
-  pub put : Bags bytes puts
-  pub last_takes : (d : Transition) → 0 < length ts → ends (slice_index_or ts (length ts - 1) d).takes ≡ length takes
-  pub last_puts : (d : Transition) → 0 < length ts → ends (slice_index_or ts (length ts - 1) d).puts ≡ length puts
+pub record PartsInPlace (ts : List Transition) (takes puts : List Arc) (bytes : List ℕ) : Type 0 where
+  pub each : All (PartsWithin takes puts bytes) ts
+  pub taken : BagsWithin bytes takes
+  pub put : BagsWithin bytes puts
+  pub last_taken : (d : Transition) → 0 < length ts → end_of (slice_index_or ts (length ts - 1) d).takes ≡ length takes
+  pub last_put : (d : Transition) → 0 < length ts → end_of (slice_index_or ts (length ts - 1) d).puts ≡ length puts

@@ -94,15 +94,9 @@ transition_told takes puts bytes t = record {
   puts = map (arc_told bytes) (part_of t.puts puts);
 }
 
--- an arc, a transition, and all transitions, as those in memory tell them
-abbrev pub arc_in : Transitions → arcs.Arc → Arc
-arc_in s = arc_told (vec_items s.bytes)
-
-abbrev pub transition_in : Transitions → parts.Transition → Transition
-transition_in s = transition_told (vec_items s.takes) (vec_items s.puts) (vec_items s.bytes)
-
+-- the transitions that those in memory hold
 abbrev pub transitions_told : Transitions → List Transition
-transitions_told s = map (transition_in s) (vec_items s.list)
+transitions_told s = map (transition_told (vec_items s.takes) (vec_items s.puts) (vec_items s.bytes)) (vec_items s.list)
 
 -- the net that parts in memory tell
 abbrev pub told_by : Parts → SystemNet

@@ -2,15 +2,14 @@ ghost use Rattle.std.specs.Prelude.{◌≡◌, slice_index};
 
 use crate::net::CELLS;
 use domain::Kind;
+use extent::Extent;
 use term::{BagOperation, Operation};
+use transitions::Transitions;
 
 mod ask;
 mod build;
 mod extent;
 mod transitions;
-
-use extent::Extent;
-use transitions::Transitions;
 
 // An arc: its place, and which of the bytes of all transitions are its bag.
 #[derive(Clone, Copy)]

@@ -55,7 +55,7 @@ size_of sizes sort = slice_index sizes sort
 abbrev pub size : Sig → ℕ → ℕ
 size s = size_of s.sizes
 
--- how many results stand together for one first argument
+-- how many results stand together for one first argument; of more than two arguments, as if there were no second
 abbrev pub width : Sig → Arguments → ℕ
 width s arguments.None = 1
 width s (arguments.One a) = 1

@@ -7,7 +7,8 @@ pub enum Arguments {
     None,
     One(u8),
     Two(u8, u8),
-    // Of more than two, the first two are read alone, and a result stands at the sum of both. No file tells one.
+    // Three and more, which no file tells but who calls may give: the first two are read alone, and a result stands at the
+    // sum of both.
     More(u8, u8),
 }
 

@@ -5,7 +5,7 @@ ghost use Rattle.term.specs.Worth.{value_of};
 ghost use Rattle.domain.specs.Meaning.{Tells};
 ghost use Rattle.net.specs.Nets.{ExactlyTallied, HasCell, IsKind, Mode, Tallied, arcs_of, codes_of, digit, given, guard_holds, largest_side, mode, mode_of, modes_of, side, taken, transition};
 ghost use Rattle.net.specs.Of.{system};
-ghost use Rattle.net.specs.System.{arc_in};
+ghost use Rattle.net.specs.System.{arc_told};
 
 use super::{CELLS, Net};
 use crate::firing::Firing;
@@ -145,7 +145,7 @@ impl Net {
 
     // The arcs of a transition that go one way.
     fn arcs_of(&self, t: usize, direction: Direction) -> &[Arc]
-        ensures { map (arc_in self.now.parts.transitions) result.now ≡ arcs_of (system self.now) t direction }
+        ensures { map (arc_told self.now.parts.transitions.bytes.items) result.now ≡ arcs_of (system self.now) t direction }
     {
         self.parts.transitions.arcs(t, direction)
     }

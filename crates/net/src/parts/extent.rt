@@ -4,7 +4,7 @@ ghost use Rattle.net.specs.Extents.{part_of};
 
 // A part of a list: how many stand before it, and how many it has.
 #[derive(Clone, Copy)]
-pub struct Extent {
+pub(crate) struct Extent {
     pub(crate) from: usize,
     pub(crate) len: usize,
 }

@@ -1,7 +1,7 @@
 // What is asked of transitions.
 ghost use Rattle.std.specs.Prelude.{◌≡◌, map, option_map, slice_index_or, MatchOption};
 ghost use Rattle.net.specs.Reading.{newest};
-ghost use Rattle.net.specs.System.{arc_in, no_transition, towards, transition_in, transitions_told};
+ghost use Rattle.net.specs.System.{arc_told, no_transition, towards, transition_told, transitions_told};
 
 use super::Transitions;
 use crate::parts::extent::cut;
@@ -11,7 +11,7 @@ use format::Direction;
 impl Transitions {
     // The transition of this number.
     pub(crate) fn get(&self, t: usize) -> Option<&Transition>
-        ensures { MatchOption result (slice_index_or (transitions_told self.now) t no_transition ≡ no_transition) (λ x. slice_index_or (transitions_told self.now) t no_transition ≡ transition_in self.now x.now) }
+        ensures { MatchOption result (slice_index_or (transitions_told self.now) t no_transition ≡ no_transition) (λ x. slice_index_or (transitions_told self.now) t no_transition ≡ transition_told self.now.takes.items self.now.puts.items self.now.bytes.items x.now) }
     {
         self.list.get(t)
     }
@@ -20,6 +20,7 @@ impl Transitions {
     pub(crate) fn variables(&self) -> &[u8]
         ensures { result.now ≡ (newest (transitions_told self.now) no_transition).sorts }
     {
+        // no `map_or`: its closure would want a clause of its own
         let Some(t) = self.list.last() else {
             return &[];
         };
@@ -36,7 +37,7 @@ impl Transitions {
 
     // The arcs of a transition that go one way.
     pub(crate) fn arcs(&self, t: usize, direction: Direction) -> &[Arc]
-        ensures { map (arc_in self.now) result.now ≡ towards direction (slice_index_or (transitions_told self.now) t no_transition).takes (slice_index_or (transitions_told self.now) t no_transition).puts }
+        ensures { map (arc_told self.now.bytes.items) result.now ≡ towards direction (slice_index_or (transitions_told self.now) t no_transition).takes (slice_index_or (transitions_told self.now) t no_transition).puts }
     {
         let Some(t) = self.get(t) else {
             return &[];
@@ -49,7 +50,7 @@ impl Transitions {
 
     // The bag of an arc.
     pub(crate) fn bag(&self, arc: &Arc) -> &[u8]
-        ensures { result.now ≡ (arc_in self.now arc.now).bag }
+        ensures { result.now ≡ (arc_told self.now.bytes.items arc.now).bag }
     {
         cut(self.bytes.as_slice(), arc.bag)
     }

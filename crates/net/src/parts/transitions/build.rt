@@ -1,6 +1,6 @@
 // Transitions as they are read.
-ghost use Rattle.std.specs.Prelude.{◌≡◌, ◌+◌, ◌-◌, ◌^◌, ◌≤◌, [], ◌∷◌, ◌++◌, None, length, min, sum_by, vec_len, IfOk, OnErr, OnOk};
-ghost use Rattle.net.specs.Extents.{ends, part_of};
+ghost use Rattle.std.specs.Prelude.{◌≡◌, ◌+◌, ◌-◌, ◌^◌, ◌≤◌, [], ◌∷◌, ◌++◌, None, Some, length, min, sum_by, vec_len, IfOk, OnErr, OnOk};
+ghost use Rattle.net.specs.Extents.{end_of, part_of};
 ghost use Rattle.net.specs.Reading.{guarded, linked, renew};
 ghost use Rattle.net.specs.System.{arcs_in, no_transition, transitions_told};
 
@@ -11,17 +11,24 @@ use format::Direction;
 use std::alloc::{AllocError, Global};
 
 impl Transition {
-    // How many arcs there are, both directions together.
+    // How many arcs there are, both directions together. Where their parts are within the lists the bound is far off, but
+    // the types do not say so.
     fn arc_count(&self) -> usize
         ensures { result ≡ min (self.now.takes.len + self.now.puts.len) (2 ^ 64 - 1) }
     {
         self.takes.len.saturating_add(self.puts.len)
     }
+
+    fn set_guard(&mut self, term: Extent)
+        ensures { self.new ≡ record self.old { guard = Some term } }
+    {
+        self.guard = Some(term);
+    }
 }
 
 // Puts an arc behind the others and into the part that ends with them.
 fn link(arcs: &mut Vec<Arc>, part: &mut Extent, arc: Arc) -> Result<(), AllocError>
-    requires { ends part.old ≡ vec_len arcs.old }
+    requires { end_of part.old ≡ vec_len arcs.old }
     ensures ok { OnOk result ((arcs.new.items ≡ arcs.old.items ++ arc ∷ []) × (part.new ≡ record part.old { len = part.old.len + 1 })) }
     ensures err { OnErr result ((arcs.new.items ≡ arcs.old.items) × (part.new ≡ part.old)) }
 {
@@ -43,7 +50,8 @@ impl Transitions {
     }
 
     pub(crate) fn clear(&mut self)
-        ensures { transitions_told self.new ≡ [] }
+        ensures told { transitions_told self.new ≡ [] }
+        ensures nothing { (self.new.takes.items ≡ []) × (self.new.puts.items ≡ []) × (self.new.bytes.items ≡ []) }
     {
         self.list.clear();
         self.takes.clear();
@@ -70,7 +78,7 @@ impl Transitions {
     fn keep(&mut self, bytes: &[u8]) -> Result<Extent, AllocError>
         ensures told { transitions_told self.new ≡ transitions_told self.old }
         ensures bytes { IfOk result (λ e. part_of e self.new.bytes.items ≡ bytes.now) }
-        ensures within { IfOk result (λ e. ends e ≤ length self.new.bytes.items) }
+        ensures within { IfOk result (λ e. end_of e ≤ length self.new.bytes.items) }
     {
         let from = self.bytes.len();
         self.bytes.extend_from_slice(bytes)?;
@@ -109,7 +117,7 @@ impl Transitions {
     {
         let term = self.keep(term)?;
         if let Some(t) = self.list.last_mut() {
-            t.guard = Some(term);
+            t.set_guard(term);
         }
         Ok(())
     }

@@ -14,7 +14,7 @@ returns-in-In c =
     let p = c.args.place in
     let to : Direction → List ℕ → List Transition → List Transition = λ d b l. renew l no_transition (linked d (record { place = p; bag = b })) in
     on_ok_weaker c.link.result
-    (λ e. added_take (vec_items s.list) (vec_items s.takes) (vec_items s.puts) (vec_items s.bytes) s.kept (vec_len s.list) s.list.ok.0 some c.in-Some.t.now c.in-Some.ensures.value (record { place = p; bag = c.in_ok-bag.bag }) _ _ e.0 e.1
+    (λ e. added_take (vec_items s.list) (vec_items s.takes) (vec_items s.puts) (vec_items s.bytes) s.in_place (vec_len s.list) s.list.ok.0 some c.in-Some.t.now c.in-Some.ensures.value (record { place = p; bag = c.in_ok-bag.bag }) _ _ e.0 e.1
     ∙ ap (λ b. to In b (transitions_told s)) c.in_ok-bag.ensures.bytes
     ∙ ap (to In c.args.bag.now) c.keep.ensures.told
     ∙ ap (λ d. to d c.args.bag.now (transitions_told c.args.self.now)) (sym c.in-In.is))
@@ -27,7 +27,7 @@ returns-in-Out c =
     let p = c.args.place in
     let to : Direction → List ℕ → List Transition → List Transition = λ d b l. renew l no_transition (linked d (record { place = p; bag = b })) in
     on_ok_weaker c.link-in-Out.result
-    (λ e. added_put (vec_items s.list) (vec_items s.takes) (vec_items s.puts) (vec_items s.bytes) s.kept (vec_len s.list) s.list.ok.0 some c.in-Some.t.now c.in-Some.ensures.value (record { place = p; bag = c.in_ok-bag.bag }) _ _ e.0 e.1
+    (λ e. added_put (vec_items s.list) (vec_items s.takes) (vec_items s.puts) (vec_items s.bytes) s.in_place (vec_len s.list) s.list.ok.0 some c.in-Some.t.now c.in-Some.ensures.value (record { place = p; bag = c.in_ok-bag.bag }) _ _ e.0 e.1
     ∙ ap (λ b. to Out b (transitions_told s)) c.in_ok-bag.ensures.bytes
     ∙ ap (to Out c.args.bag.now) c.keep.ensures.told
     ∙ ap (λ d. to d c.args.bag.now (transitions_told c.args.self.now)) (sym c.in-Out.is))

@@ -15,4 +15,4 @@ returns c =
     (λ ys a x b f' j k. let e : b ≡ min (a + min (held x.now) M) M = search rules in (arcs_more ys x.now a b j e, search rules))
     _ _ _ _ (slice_gives c.iter.result) refl c.fold.ensures.ran))
     in
-    counted ∙ ap (λ n. min n M) (held_told (vec_items s.takes) (vec_items s.puts) (vec_items s.bytes) (vec_items s.list) s.kept.each)
+    counted ∙ ap (λ n. min n M) (held_told (vec_items s.takes) (vec_items s.puts) (vec_items s.bytes) (vec_items s.list) s.in_place.each)

@@ -9,4 +9,4 @@ returns-clause-told c =
     let takes = vec_items s.takes in
     let puts = vec_items s.puts in
     let more : vec_items c.extend_from_slice.new.self ≡ vec_items s.bytes ++ c.args.bytes.now = search rules in
-    ap (λ (b : List ℕ). map (transition_told takes puts b) (vec_items s.list)) more ∙ all_bytes takes puts (vec_items s.bytes) c.args.bytes.now s.kept.taken s.kept.put (vec_items s.list) s.kept.each
+    ap (λ (b : List ℕ). map (transition_told takes puts b) (vec_items s.list)) more ∙ all_bytes takes puts (vec_items s.bytes) c.args.bytes.now s.in_place.taken s.in_place.put (vec_items s.list) s.in_place.each
