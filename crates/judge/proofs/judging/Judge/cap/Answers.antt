@@ -1,4 +1,4 @@
-use Rattle.std.proofs.Common.{◌≡◌, ◌<◌, ℕ, true, false, Err, Ok, is_err, length, ℤ, List, sym, ◌∙◌, subst, true≢false}
+use Rattle.std.proofs.Common.{◌≡◌, ◌<◌, ℕ, true, false, Err, Ok, is_err, length, ℤ, List, sym, ◌∙◌, subst, true≢false, rules}
 use Rattle.domain.specs.Meaning.{Meaning}
 use Rattle.net.specs.Nets.{codes_of}
 use Rattle.net.specs.System.{SystemNet}
@@ -51,10 +51,12 @@ returns-clause-asked g c =
     let begun = c.in_ok-begin_cap.ensures in
     let loaded = c.in_ok-load_codes.ensures.loaded in
     let same = c.judge_codes.ensures.codes in
+    let are_plain : AllPlain d plain c.load_codes.new.self.codes.now = search rules in
+    let agreed : is_err r ≡ false = search rules in
     let verdict = rw c.in_ok-load_codes.ensures.same.net at c.judge_codes.ensures.verdict in (
       begun.2,
-      subst (AllPlain d plain) (sym same) c.if-not-are_plain.ensures,
-      accepted (λ v. JudgeCalled d n c.args.claim (lent c.args.self.now) k (Ok v)) r (sym c.is_err.ensures.value ∙ c.if-is_err.false)
+      subst (AllPlain d plain) (sym same) are_plain,
+      accepted (λ v. JudgeCalled d n c.args.claim (lent c.args.self.now) k (Ok v)) r agreed
           (called d n c.args.claim (lent c.args.self.now) k _ r begun.0 begun.1 same loaded.0 loaded.1 verdict),
       rw (c.judge_codes.ensures.same.net ∙ c.in_ok-load_codes.ensures.same.net) at c.room.ensures,
     )
