@@ -1,5 +1,5 @@
 -- Parts of lists that transitions and arcs share.
-use Rattle.std.specs.Prelude.{◌≡◌, ℕ, ◌+◌, ◌-◌, ◌<◌, ◌≤◌, List, length, take, drop, slice_index_or}
+use Rattle.std.specs.Prelude.{◌≡◌, ℕ, ◌+◌, ◌-◌, ◌<◌, ◌≤◌, List, [], length, take, drop, slice_index_or}
 use Rattle.std.specs.List.{All}
 use Rattle.std.specs.Option.{ForSome}
 use Rattle.net.specs.declared.parts.Arc.{Arc}
@@ -32,3 +32,7 @@ pub record PartsInPlace (ts : List Transition) (takes puts : List Arc) (bytes : 
   pub put : BagsWithin bytes puts
   pub last_taken : (d : Transition) → 0 < length ts → end_of (slice_index_or ts (length ts - 1) d).takes ≡ length takes
   pub last_put : (d : Transition) → 0 < length ts → end_of (slice_index_or ts (length ts - 1) d).puts ≡ length puts
+
+-- neither arcs nor bytes are left
+abbrev pub NothingLeft : List Arc → List Arc → List ℕ → Type 0
+NothingLeft takes puts bytes = (takes ≡ []) × (puts ≡ []) × (bytes ≡ [])

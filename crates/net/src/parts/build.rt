@@ -3,6 +3,7 @@ ghost use Rattle.std.specs.Prelude.{◌≡◌, ◌-◌, length, IfOk, OnOk, slic
 ghost use Rattle.term.specs.Meaning.{of};
 ghost use Rattle.format.specs.Commands.{bag_operation, claim, element_weight, operation, place_weight, said_of, tokens, transition};
 ghost use Rattle.format.specs.Format.{setting_of};
+ghost use Rattle.net.specs.Extents.{NothingLeft};
 ghost use Rattle.net.specs.Nets.{no_claim};
 ghost use Rattle.net.specs.Reading.{add, coded, empty, full, newest, setting, table_added, unweighted};
 ghost use Rattle.net.specs.System.{arc_count, told_by};
@@ -69,7 +70,8 @@ impl Parts {
 
     // Back to those of the empty net.
     pub(crate) fn clear(&mut self)
-        ensures { told_by self.new ≡ empty }
+        ensures told { told_by self.new ≡ empty }
+        ensures nothing { NothingLeft self.new.transitions.takes.items self.new.transitions.puts.items self.new.transitions.bytes.items }
     {
         self.sizes.truncate(1);
         self.operations.clear();

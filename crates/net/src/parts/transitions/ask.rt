@@ -20,11 +20,9 @@ impl Transitions {
     pub(crate) fn variables(&self) -> &[u8]
         ensures { result.now ≡ (newest (transitions_told self.now) no_transition).sorts }
     {
-        // no `map_or`: its closure would want a clause of its own
-        let Some(t) = self.list.last() else {
-            return &[];
-        };
-        cut(self.bytes.as_slice(), t.sorts)
+        self.list
+            .last()
+            .map_or(&[], |t| cut(self.bytes.as_slice(), t.sorts))
     }
 
     // The guard of a transition.

@@ -1,6 +1,6 @@
 // Transitions as they are read.
 ghost use Rattle.std.specs.Prelude.{◌≡◌, ◌+◌, ◌-◌, ◌^◌, ◌≤◌, [], ◌∷◌, ◌++◌, None, Some, length, min, sum_by, vec_len, IfOk, OnErr, OnOk};
-ghost use Rattle.net.specs.Extents.{end_of, part_of};
+ghost use Rattle.net.specs.Extents.{NothingLeft, end_of, part_of};
 ghost use Rattle.net.specs.Reading.{guarded, linked, renew};
 ghost use Rattle.net.specs.System.{arcs_in, no_transition, transitions_told};
 
@@ -51,7 +51,7 @@ impl Transitions {
 
     pub(crate) fn clear(&mut self)
         ensures told { transitions_told self.new ≡ [] }
-        ensures nothing { (self.new.takes.items ≡ []) × (self.new.puts.items ≡ []) × (self.new.bytes.items ≡ []) }
+        ensures nothing { NothingLeft self.new.takes.items self.new.puts.items self.new.bytes.items }
     {
         self.list.clear();
         self.takes.clear();
@@ -77,6 +77,7 @@ impl Transitions {
     // Puts bytes behind the others, and gives where they stand.
     fn keep(&mut self, bytes: &[u8]) -> Result<Extent, AllocError>
         ensures told { transitions_told self.new ≡ transitions_told self.old }
+        ensures more { OnOk result (vec_len self.new.bytes ≡ vec_len self.old.bytes + length bytes.now) }
         ensures bytes { IfOk result (λ e. part_of e self.new.bytes.items ≡ bytes.now) }
         ensures within { IfOk result (λ e. end_of e ≤ length self.new.bytes.items) }
     {
