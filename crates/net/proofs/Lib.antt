@@ -9,6 +9,7 @@ pub mod Coded
 pub mod Codings
 pub mod Every
 pub mod Extents
+pub mod Held
 pub mod Linked
 pub mod Loaded
 pub mod Moves

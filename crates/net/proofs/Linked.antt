@@ -17,10 +17,10 @@ module _ (ts : List Transition) (takes puts : List Arc) (bytes : List ℕ) (h : 
   newest : t ≡ get_or ts (length ts - 1) t
   newest = is ∙ ap (λ k. get_or ts (k - 1) t) len
 
-  last_takes : end_of t.takes ≡ length takes
+  pub last_takes : end_of t.takes ≡ length takes
   last_takes = ap (λ (x : Transition). end_of x.takes) newest ∙ h.last_taken t (omega arith)
 
-  last_puts : end_of t.puts ≡ length puts
+  pub last_puts : end_of t.puts ≡ length puts
   last_puts = ap (λ (x : Transition). end_of x.puts) newest ∙ h.last_put t (omega arith)
 
   pub added_take : (a : Arc) (xs : List Arc) (e : Extent) → xs ≡ takes ++ a ∷ [] → e ≡ record t.takes { len = t.takes.len + 1 }

@@ -1,14 +1,15 @@
 -- Sorts and operations, as they are declared.
-use Rattle.std.proofs.Common.{◌≡◌, ℕ, ◌+◌, ◌<◌, ◌≤◌, List, [], ◌∷◌, ◌++◌, length, get_or, ◌∙◌, ⊎_elim, arith}
+use Rattle.std.proofs.Common.{◌≡◌, ℕ, ◌+◌, ◌<◌, ◌≤◌, ◌⊎◌, inl, inr, List, [], ◌∷◌, ◌++◌, length, get_or, sum_by, refl, sym, subst, ◌∙◌, ⊎_elim, arith}
 use Rattle.std.specs.List.{All}
-use Rattle.std.proofs.lemmas.List.{get_or-append-add, get_or_append_left, get_or_past, length-append, length_push}
+use Rattle.std.proofs.lemmas.List.{get_or-append-add, get_or_append_left, get_or_past, get_or_push, length-append, length_push}
 use Rattle.std.proofs.lemmas.List.Elements.{All-append, All-push}
+use Rattle.std.proofs.lemmas.List.Sums.{sum_by_push}
 use Rattle.std.proofs.lemmas.Bool.{cases_lt}
 use Rattle.term.specs.declared.signature.Arguments.{Arguments}
 use Rattle.term.specs.declared.signature.BagOperation.{BagOperation}
 use Rattle.term.specs.declared.signature.Operation.{Operation}
-use Rattle.term.specs.Meaning.{Sig, size_of}
-use Rattle.net.specs.WellFormed.{Bytes, WellFormedBagOperation, WellFormedOperation}
+use Rattle.term.specs.Meaning.{Sig, no_bag, no_operation, size_of}
+use Rattle.net.specs.WellFormed.{Among, Bytes, IsCount, IsResult, WellFormedBagOperation, WellFormedOperation, counts_of, entries, results_of}
 use Rattle.net.proofs.Anywhere.{anywhere}
 use Rattle.net.proofs.Operands.{Counting, Resulting}
 use Rattle.net.specs.System.{most_bag_operations, most_operations, most_sorts}
@@ -24,6 +25,13 @@ pub record Signed (s : Sig) : Type 0 where
   pub few_bags : length s.bags ≤ most_bag_operations
   pub bags : All (WellFormedBagOperation s.sizes s.tables) s.bags
   pub tables : Bytes s.tables
+  pub whole : length s.tables ≡ entries s
+  pub owned : (i : ℕ) → i < length s.tables → IsResult s i ⊎ IsCount s i
+
+-- no list, no sum
+no_sum : {X : Type 0} (f : X → ℕ) (xs : List X) → length xs ≡ 0 → sum_by f xs ≡ 0
+no_sum f [] h = refl
+no_sum f (x ∷ xs) h = let z : ⊥ = omega arith in absurd z
 
 -- with another table behind the others, what stood there stands there still, and the new one follows
 module _ (sizes tables t : List ℕ) where
@@ -86,12 +94,16 @@ module _ (s : Sig) (f : Signed s) where
     few_bags = f.few_bags;
     bags = λ i d l. let z : ⊥ = omega arith in absurd z;
     tables = f.tables;
+    whole = f.whole ∙ nothing s.sizes ∙ sym (nothing (s.sizes ++ k ∷ []));
+    owned = λ i l. let z : ⊥ = omega (arith, f.whole, nothing s.sizes) in absurd z;
   }
+    where
+      nothing : (sizes : List ℕ) → sum_by (results_of sizes) s.operations + sum_by (counts_of sizes) s.bags ≡ 0
+      nothing sizes = omega (arith, no_sum (results_of sizes) s.operations none, no_sum (counts_of sizes) s.bags no_bags)
 
   pub with_operation : (a : Arguments) (r : ℕ) (t : List ℕ) → Resulting s.sizes a r t → length s.operations < most_operations
       → Signed (record s { operations = s.operations ++ (record { arguments = a; result = r; table = length s.tables }) ∷ []; tables = s.tables ++ t })
   with_operation a r t h room =
-      let o : Operation = record { arguments = a; result = r; table = length s.tables } in
       record {
         sorts = f.sorts;
         truths = f.truths;
@@ -102,12 +114,31 @@ module _ (s : Sig) (f : Signed s) where
         few_bags = f.few_bags;
         bags = λ i d l. still_bag s.sizes s.tables t _ (f.bags i d l);
         tables = All-append (λ b. b < 256) s.tables t f.tables h.bytes;
+        whole = omega (arith, f.whole, h.whole, length-append s.tables t, sum_by_push (results_of s.sizes) s.operations o);
+        owned = λ i l. ⊎_elim (λ b. stays i (f.owned i b)) (λ b. inl (added i b l)) (cases_lt i (length s.tables));
       }
+    where
+      o : Operation
+      o = record { arguments = a; result = r; table = length s.tables }
+
+      all : Sig
+      all = record s { operations = s.operations ++ o ∷ []; tables = s.tables ++ t }
+
+      stays : (i : ℕ) → IsResult s i ⊎ IsCount s i → IsResult all i ⊎ IsCount all i
+      stays i = ⊎_elim
+          (λ (x : IsResult s i). inl (x.0, omega (arith, x.1, length_push s.operations o), subst (λ (y : Operation). Among y.table (results_of s.sizes y) i) (sym (get_or_append_left s.operations (o ∷ []) no_operation x.0 x.1)) x.2))
+          (λ (x : IsCount s i). inr x)
+
+      added : (i : ℕ) → length s.tables ≤ i → i < length all.tables → IsResult all i
+      added i b l = (
+        length s.operations,
+        omega (arith, length_push s.operations o),
+        subst (λ (y : Operation). Among y.table (results_of s.sizes y) i) (sym (get_or_push s.operations o no_operation (length s.operations) refl)) (omega arith, omega (arith, h.whole, length-append s.tables t)),
+      )
 
   pub with_bag_operation : (a r : ℕ) (t : List ℕ) → Counting s.sizes a r t → length s.bags < most_bag_operations
       → Signed (record s { bags = s.bags ++ (record { argument = a; result = r; table = length s.tables }) ∷ []; tables = s.tables ++ t })
   with_bag_operation a r t h room =
-      let o : BagOperation = record { argument = a; result = r; table = length s.tables } in
       record {
         sorts = f.sorts;
         truths = f.truths;
@@ -118,4 +149,24 @@ module _ (s : Sig) (f : Signed s) where
         few_bags = omega (arith, length_push s.bags o);
         bags = All-push (WellFormedBagOperation s.sizes (s.tables ++ t)) s.bags o (λ i d l. still_bag s.sizes s.tables t _ (f.bags i d l)) (follows_bag s.sizes s.tables t a r h);
         tables = All-append (λ b. b < 256) s.tables t f.tables h.counts;
+        whole = omega (arith, f.whole, h.whole, length-append s.tables t, sum_by_push (counts_of s.sizes) s.bags o);
+        owned = λ i l. ⊎_elim (λ b. stays i (f.owned i b)) (λ b. inr (added i b l)) (cases_lt i (length s.tables));
       }
+    where
+      o : BagOperation
+      o = record { argument = a; result = r; table = length s.tables }
+
+      all : Sig
+      all = record s { bags = s.bags ++ o ∷ []; tables = s.tables ++ t }
+
+      stays : (i : ℕ) → IsResult s i ⊎ IsCount s i → IsResult all i ⊎ IsCount all i
+      stays i = ⊎_elim
+          (λ (x : IsResult s i). inl x)
+          (λ (x : IsCount s i). inr (x.0, omega (arith, x.1, length_push s.bags o), subst (λ (y : BagOperation). Among y.table (counts_of s.sizes y) i) (sym (get_or_append_left s.bags (o ∷ []) no_bag x.0 x.1)) x.2))
+
+      added : (i : ℕ) → length s.tables ≤ i → i < length all.tables → IsCount all i
+      added i b l = (
+        length s.bags,
+        omega (arith, length_push s.bags o),
+        subst (λ (y : BagOperation). Among y.table (counts_of s.sizes y) i) (sym (get_or_push s.bags o no_bag (length s.bags) refl)) (omega arith, omega (arith, h.whole, length-append s.tables t)),
+      )

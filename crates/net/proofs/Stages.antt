@@ -19,7 +19,7 @@ rank section.Ended = 5
 abbrev pub Opens : ℕ → Section → Section → Type 0
 Opens k s s' = (rank s ≤ k) × (rank s' ≡ k)
 
-refused : {P : Type 0} (s' : Section) → ◌≡◌ {A = Option Section} None (Some s') → P
+pub refused : {P : Type 0} (s' : Section) → ◌≡◌ {A = Option Section} None (Some s') → P
 refused s' e = absurd (none-some s' e)
 
 same_rank : (s s' : Section) → ◌≡◌ {A = Option Section} (Some s) (Some s') → rank s' ≡ rank s

@@ -45,6 +45,8 @@ well_formed_of s n b short = record {
   few_bags = b.sig.few_bags;
   bags = b.sig.bags;
   tables = b.sig.tables;
+  whole = b.sig.whole;
+  owned = b.sig.owned;
   few_places = b.marking.few;
   places = b.marking.sorts;
   marked = b.marking.long;
@@ -154,6 +156,8 @@ built_empty = record {
     few_bags = omega arith;
     bags = All-nil (WellFormedBagOperation (2 ∷ []) []);
     tables = All-nil (λ b. b < 256);
+    whole = refl;
+    owned = λ i l. let z : ⊥ = omega arith in absurd z;
   };
   marking = record {
     few = omega arith;

@@ -6,3 +6,4 @@ pub mod Reading
 pub mod Of
 pub mod Written
 pub mod WellFormed
+pub mod Held

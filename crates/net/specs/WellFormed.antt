@@ -1,5 +1,5 @@
 -- What holds of every net, of what a file tells and of the empty one: its terms are of their sorts, and its numbers are in their ranges.
-use Rattle.std.specs.Prelude.{◌≡◌, ℕ, ◌+◌, ◌*◌, ◌^◌, ◌<◌, ◌≤◌, true, List, length, pos, Some, None, Option, slice_index, slice_index_or, sum_by}
+use Rattle.std.specs.Prelude.{◌≡◌, ℕ, ◌+◌, ◌*◌, ◌^◌, ◌<◌, ◌≤◌, ◌⊎◌, true, List, length, pos, Some, None, Option, slice_index, slice_index_or, sum_by}
 use Rattle.std.specs.List.{All}
 use Rattle.std.specs.Option.{option_map_or}
 use Rattle.domain.specs.Kinds.{kind_weighs}
@@ -8,7 +8,7 @@ use Rattle.term.specs.declared.signature.Arguments.{Arguments}
 use Rattle.term.specs.declared.signature.Arguments.TheVariants as arguments
 use Rattle.term.specs.declared.signature.BagOperation.{BagOperation}
 use Rattle.term.specs.declared.signature.Operation.{Operation}
-use Rattle.term.specs.Meaning.{Sig, bag_sorted, size_of, sorted}
+use Rattle.term.specs.Meaning.{Sig, bag_operation, bag_sorted, operation, size_of, sorted}
 use Rattle.term.specs.Prefix.{bag_at, term_at}
 use Rattle.net.specs.declared.parts.Claim.{Claim}
 use Rattle.net.specs.Nets.{HasCell}
@@ -43,6 +43,29 @@ pub record WellFormedBagOperation (sizes tables : List ℕ) (o : BagOperation) :
   pub result : Declared sizes o.result
   pub within : o.table + size_of sizes o.argument * size_of sizes o.result ≤ length tables
   pub counts : (i : ℕ) → i < size_of sizes o.argument * size_of sizes o.result → slice_index tables (o.table + i) < 256
+
+-- how many results an operation has: one for each combination of its arguments
+abbrev pub results_of : List ℕ → Operation → ℕ
+results_of sizes o = combinations sizes o.arguments
+
+-- how many counts a bag operation has: for each argument one for each element of its result sort
+abbrev pub counts_of : List ℕ → BagOperation → ℕ
+counts_of sizes o = size_of sizes o.argument * size_of sizes o.result
+
+-- how many entries the tables of all operations and bag operations have together
+abbrev pub entries : Sig → ℕ
+entries s = sum_by (results_of s.sizes) s.operations + sum_by (counts_of s.sizes) s.bags
+
+-- one of so many entries from a place on
+abbrev pub Among : ℕ → ℕ → ℕ → Type 0
+Among from len i = (from ≤ i) × (i < from + len)
+
+-- an entry of the tables is a result of some operation, or a count of some bag operation
+abbrev pub IsResult : Sig → ℕ → Type 0
+IsResult s i = (k : ℕ) × (k < length s.operations) × Among (operation s k).table (results_of s.sizes (operation s k)) i
+
+abbrev pub IsCount : Sig → ℕ → Type 0
+IsCount s i = (k : ℕ) × (k < length s.bags) × Among (bag_operation s k).table (counts_of s.sizes (bag_operation s k)) i
 
 -- bytes are one term of the sort want, in variables of these sorts, and nothing else
 pub record IsTerm (s : Sig) (vars : List ℕ) (want : ℕ) (bs : List ℕ) : Type 0 where
@@ -104,6 +127,9 @@ pub record WellFormed (n : SystemNet) : Type 0 where
   pub bags : All (WellFormedBagOperation n.sig.sizes n.sig.tables) n.sig.bags
   -- what an operation gives past its own table is a byte too
   pub tables : Bytes n.sig.tables
+  -- the tables hold the entries of operations and bag operations, each in a place of its own, and nothing else
+  pub whole : length n.sig.tables ≡ entries n.sig
+  pub owned : (i : ℕ) → i < length n.sig.tables → IsResult n.sig i ⊎ IsCount n.sig i
   pub few_places : length n.places ≤ most_places
   pub places : All (Declared n.sig.sizes) n.places
   -- the initial marking has 1,024 counts of 16 bits; one that is of no cell is 0

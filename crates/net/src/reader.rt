@@ -1,7 +1,9 @@
 ghost use Rattle.std.specs.Prelude.{◌≡◌, ◌<◌, length, IfOk, OnOk};
+ghost use Rattle.net.specs.Held.{HoldsNoMore, Ready};
 ghost use Rattle.net.specs.Reading.{Fills, Reads, Steps, empty, opening, opens, step as step_at};
 ghost use Rattle.net.specs.Of.{system};
 ghost use Rattle.net.specs.System.{told_by};
+ghost use Rattle.net.specs.WellFormed.{Bytes};
 ghost use Rattle.net.specs.declared.reader.ReadError.TheVariants.{File, Memory};
 
 use crate::net::Net;
@@ -63,11 +65,15 @@ impl<'f> Reader<'f> {
         Ok(code)
     }
 
-    // Reads the next command and carries it out. False at the end.
+    // Reads the next command and carries it out. False at the end. That what is left of the file are bytes stands in
+    // clauses, since no fact of a type says it of a field.
     fn step(&mut self, parts: &mut Parts) -> Result<bool, ReadError>
         ensures value { Steps result self.new.order.section (told_by parts.new) self.new.rest.now (step_at self.old.order.section (told_by parts.old) self.old.rest.now self.old.ends) }
         ensures shorter { OnOk result (length self.new.rest.now < length self.old.rest.now) }
         ensures ends { self.new.ends ≡ self.old.ends }
+        ensures bytes { OnOk result (Bytes self.old.rest.now → Bytes self.new.rest.now) }
+        ensures ready { OnOk result (Bytes self.old.rest.now → Ready self.old.order.section (told_by parts.old).transitions → Ready self.new.order.section (told_by parts.new).transitions) }
+        ensures no_more { OnOk result (Bytes self.old.rest.now → Ready self.old.order.section (told_by parts.old).transitions → HoldsNoMore parts.old.transitions → HoldsNoMore parts.new.transitions) }
     {
         let code = self.code(parts)?;
         let (command, rest) = parts.context(self.ends).parse(code, self.rest)?;
@@ -80,7 +86,8 @@ impl<'f> Reader<'f> {
 // Carries out every command of a file, from the empty net on.
 fn fill(parts: &mut Parts, file: &[u8]) -> Result<(), ReadError>
     requires { told_by parts.old ≡ empty }
-    ensures { Fills result file.now (told_by parts.new) }
+    ensures told { Fills result file.now (told_by parts.new) }
+    ensures no_more { OnOk result (HoldsNoMore parts.old.transitions → HoldsNoMore parts.new.transitions) }
 {
     if file.len() > LONGEST {
         return Err(ReadError::File(FileFault {
@@ -99,8 +106,10 @@ fn fill(parts: &mut Parts, file: &[u8]) -> Result<(), ReadError>
 }
 
 // Makes the parts those of the file's net, or of the empty one if there is a fault.
+#[tactic(auto, using(crate::proofs::Held::none_no_more))]
 fn load(parts: &mut Parts, file: &[u8]) -> Result<(), ReadError>
-    ensures { Reads result file.now (told_by parts.new) }
+    ensures told { Reads result file.now (told_by parts.new) }
+    ensures no_more { HoldsNoMore parts.new.transitions }
 {
     parts.clear();
     let answer = fill(parts, file);

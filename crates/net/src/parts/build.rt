@@ -4,6 +4,7 @@ ghost use Rattle.term.specs.Meaning.{of};
 ghost use Rattle.format.specs.Commands.{bag_operation, claim, element_weight, operation, place_weight, said_of, tokens, transition};
 ghost use Rattle.format.specs.Format.{setting_of};
 ghost use Rattle.net.specs.Extents.{NothingLeft};
+ghost use Rattle.net.specs.Held.{Fits, HoldsNoMore};
 ghost use Rattle.net.specs.Nets.{no_claim};
 ghost use Rattle.net.specs.Reading.{add, coded, empty, full, newest, setting, table_added, unweighted};
 ghost use Rattle.net.specs.System.{arc_count, told_by};
@@ -54,7 +55,8 @@ impl Claim {
 impl Parts {
     // Those of the empty net: sort 0 alone, which has two elements.
     pub(crate) fn new(heap: Global) -> Result<Parts, AllocError>
-        ensures { IfOk result (λ p. told_by p ≡ empty) }
+        ensures told { IfOk result (λ p. told_by p ≡ empty) }
+        ensures nothing { IfOk result (λ p. NothingLeft p.transitions.takes.items p.transitions.puts.items p.transitions.bytes.items) }
     {
         Ok(Parts {
             sizes: vec![in heap; 2]?,
@@ -135,7 +137,8 @@ impl Parts {
 
     // Adds a table behind the others, and gives where it begins.
     fn add_table(&mut self, table: &[u8]) -> Result<u32, AllocError>
-        ensures { IfOk result (λ from. (from ≡ length (told_by self.old).sig.tables) × (told_by self.new ≡ table_added table.now (told_by self.old))) }
+        ensures told { IfOk result (λ from. (from ≡ length (told_by self.old).sig.tables) × (told_by self.new ≡ table_added table.now (told_by self.old))) }
+        ensures others { self.new.transitions ≡ self.old.transitions }
     {
         // no file is so long that this fails
         let from = u32::try_from(self.tables.len()).map_err(|_| AllocError)?;
@@ -149,7 +152,8 @@ impl Parts {
         res: u8,
         table: &[u8],
     ) -> Result<(), AllocError>
-        ensures { OnOk result (told_by self.new ≡ add (told_by self.old) (operation arguments res table.now)) }
+        ensures told { OnOk result (told_by self.new ≡ add (told_by self.old) (operation arguments res table.now)) }
+        ensures others { self.new.transitions ≡ self.old.transitions }
     {
         let table = self.add_table(table)?;
         self.operations.push(Operation {
@@ -161,7 +165,8 @@ impl Parts {
     }
 
     fn add_bag_operation(&mut self, argument: u8, res: u8, table: &[u8]) -> Result<(), AllocError>
-        ensures { OnOk result (told_by self.new ≡ add (told_by self.old) (bag_operation argument res table.now)) }
+        ensures told { OnOk result (told_by self.new ≡ add (told_by self.old) (bag_operation argument res table.now)) }
+        ensures others { self.new.transitions ≡ self.old.transitions }
     {
         let table = self.add_table(table)?;
         self.bags.push(BagOperation {
@@ -173,14 +178,16 @@ impl Parts {
     }
 
     fn add_transition(&mut self, sorts: &[u8]) -> Result<(), AllocError>
-        ensures { OnOk result (told_by self.new ≡ add (told_by self.old) (transition sorts.now)) }
+        ensures told { OnOk result (told_by self.new ≡ add (told_by self.old) (transition sorts.now)) }
+        ensures no_more { OnOk result (HoldsNoMore self.old.transitions → HoldsNoMore self.new.transitions) }
     {
         let sizes = variable_sizes(self.sizes.as_slice(), sorts);
         self.transitions.push(sorts, sizes)
     }
 
     fn add_claim(&mut self, kind: Kind) -> Result<(), AllocError>
-        ensures { OnOk result (told_by self.new ≡ add (told_by self.old) (claim kind)) }
+        ensures told { OnOk result (told_by self.new ≡ add (told_by self.old) (claim kind)) }
+        ensures others { self.new.transitions ≡ self.old.transitions }
     {
         self.claims.push(Claim::new(kind))?;
         Ok(())
@@ -188,7 +195,8 @@ impl Parts {
 
     // Gives one cell of the newest claim a code.
     fn set_code(&mut self, place: u8, element: u8, code: i32)
-        ensures { told_by self.new ≡ add (told_by self.old) (element_weight place element code) }
+        ensures told { told_by self.new ≡ add (told_by self.old) (element_weight place element code) }
+        ensures others { self.new.transitions ≡ self.old.transitions }
     {
         if let Some(claim) = self.claims.last_mut() {
             claim.set(cell(place, element), code);
@@ -197,7 +205,8 @@ impl Parts {
 
     // Gives all elements of a place a code in the newest claim.
     fn set_codes(&mut self, place: u8, code: i32)
-        ensures { told_by self.new ≡ add (told_by self.old) (place_weight place code) }
+        ensures told { told_by self.new ≡ add (told_by self.old) (place_weight place code) }
+        ensures others { self.new.transitions ≡ self.old.transitions }
     {
         for element in 0..self.elements(place) {
             self.set_code(place, element, code);
@@ -205,7 +214,8 @@ impl Parts {
     }
 
     fn set_tokens(&mut self, place: u8, element: u8, count: u16)
-        ensures { told_by self.new ≡ add (told_by self.old) (tokens place element count) }
+        ensures told { told_by self.new ≡ add (told_by self.old) (tokens place element count) }
+        ensures others { self.new.transitions ≡ self.old.transitions }
     {
         let at = cell(place, element);
         if at < CELLS {
@@ -215,7 +225,8 @@ impl Parts {
 
     // Carries out a command that was read.
     pub(crate) fn carry_out(&mut self, command: Command) -> Result<(), AllocError>
-        ensures { OnOk result (told_by self.new ≡ add (told_by self.old) (said_of command.entry)) }
+        ensures told { OnOk result (told_by self.new ≡ add (told_by self.old) (said_of command.entry)) }
+        ensures no_more { OnOk result (Fits (said_of command.entry) (told_by self.old).transitions → HoldsNoMore self.old.transitions → HoldsNoMore self.new.transitions) }
     {
         match command {
             Command::Sort { size } => self.sizes.push(size)?,

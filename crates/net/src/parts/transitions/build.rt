@@ -1,6 +1,8 @@
 // Transitions as they are read.
 ghost use Rattle.std.specs.Prelude.{◌≡◌, ◌+◌, ◌-◌, ◌^◌, ◌≤◌, [], ◌∷◌, ◌++◌, None, Some, length, min, sum_by, vec_len, IfOk, OnErr, OnOk};
+ghost use Rattle.format.specs.Commands.{arc, guard};
 ghost use Rattle.net.specs.Extents.{NothingLeft, end_of, part_of};
+ghost use Rattle.net.specs.Held.{Fits, HoldsNoMore};
 ghost use Rattle.net.specs.Reading.{guarded, linked, renew};
 ghost use Rattle.net.specs.System.{arcs_in, no_transition, transitions_told};
 
@@ -39,7 +41,8 @@ fn link(arcs: &mut Vec<Arc>, part: &mut Extent, arc: Arc) -> Result<(), AllocErr
 
 impl Transitions {
     pub(crate) fn new(heap: Global) -> Transitions
-        ensures { transitions_told result ≡ [] }
+        ensures told { transitions_told result ≡ [] }
+        ensures nothing { NothingLeft result.takes.items result.puts.items result.bytes.items }
     {
         Transitions {
             list: Vec::new(heap),
@@ -78,8 +81,10 @@ impl Transitions {
     fn keep(&mut self, bytes: &[u8]) -> Result<Extent, AllocError>
         ensures told { transitions_told self.new ≡ transitions_told self.old }
         ensures more { OnOk result (vec_len self.new.bytes ≡ vec_len self.old.bytes + length bytes.now) }
+        ensures place { IfOk result (λ e. (e.from ≡ vec_len self.old.bytes) × (e.len ≡ length bytes.now)) }
         ensures bytes { IfOk result (λ e. part_of e self.new.bytes.items ≡ bytes.now) }
         ensures within { IfOk result (λ e. end_of e ≤ length self.new.bytes.items) }
+        ensures others { (self.new.list ≡ self.old.list) × (self.new.takes ≡ self.old.takes) × (self.new.puts ≡ self.old.puts) }
     {
         let from = self.bytes.len();
         self.bytes.extend_from_slice(bytes)?;
@@ -91,7 +96,8 @@ impl Transitions {
 
     // Adds a transition with variables of these sorts, which have so many elements.
     pub(crate) fn push(&mut self, sorts: &[u8], sizes: [u8; 4]) -> Result<(), AllocError>
-        ensures { OnOk result (transitions_told self.new ≡ transitions_told self.old ++ (record { sorts = sorts.now; sizes = sizes; guard = None; takes = []; puts = [] }) ∷ []) }
+        ensures told { OnOk result (transitions_told self.new ≡ transitions_told self.old ++ (record { sorts = sorts.now; sizes = sizes; guard = None; takes = []; puts = [] }) ∷ []) }
+        ensures no_more { OnOk result (HoldsNoMore self.old → HoldsNoMore self.new) }
     {
         let sorts = self.keep(sorts)?;
         let takes = Extent {
@@ -114,7 +120,8 @@ impl Transitions {
 
     // Gives the newest transition a guard.
     pub(crate) fn set_guard(&mut self, term: &[u8]) -> Result<(), AllocError>
-        ensures { OnOk result (transitions_told self.new ≡ renew (transitions_told self.old) no_transition (guarded term.now)) }
+        ensures told { OnOk result (transitions_told self.new ≡ renew (transitions_told self.old) no_transition (guarded term.now)) }
+        ensures no_more { OnOk result (Fits (guard term.now) (transitions_told self.old) → HoldsNoMore self.old → HoldsNoMore self.new) }
     {
         let term = self.keep(term)?;
         if let Some(t) = self.list.last_mut() {
@@ -130,7 +137,8 @@ impl Transitions {
         place: u8,
         bag: &[u8],
     ) -> Result<(), AllocError>
-        ensures { OnOk result (transitions_told self.new ≡ renew (transitions_told self.old) no_transition (linked direction (record { place = place; bag = bag.now }))) }
+        ensures told { OnOk result (transitions_told self.new ≡ renew (transitions_told self.old) no_transition (linked direction (record { place = place; bag = bag.now }))) }
+        ensures no_more { OnOk result (Fits (arc direction place bag.now) (transitions_told self.old) → HoldsNoMore self.old → HoldsNoMore self.new) }
     {
         let bag = self.keep(bag)?;
         let arc = Arc { place, bag };
